@@ -1,0 +1,144 @@
+-- 01's 'Texts tried' and 'Mistakes the contracts shut out' as statements about the definitions. Each record is one statement, and
+-- both sides of each of its lines are computed: no law is used. Assumes nothing.
+use Prim.Native.Nat.{ℕ}
+use mathlib.Core.Path.{_≡_, refl}
+use mathlib.Core.Bool.{Bool, true, false}
+use mathlib.Core.List.{List, [], _∷_, _++_}
+use lib.ListN.{length, getD, replicate}
+use Rattle.predictive.specs.Forest.{Forest, nil, leaf, node, message}
+use Rattle.predictive.specs.Events.{Event, start, finish, error, erring, any-fault}
+use Rattle.predictive.specs.Tree.{spell}
+use Rattle.aadl.specs.declared.Token.{Token}
+use Rattle.aadl.specs.Limits.{Limits, base}
+use Rattle.aadl.specs.Kinds.{#_, ERROR, SEMICOLON, DOT-DOT, FAT-ARROW, PLUS, MINUS, INTEGER-LIT, REAL-LIT, STRING-LIT, IDENT, PROPERTIES-KW, APPLIES-KW, TO-KW, NOT-KW}
+use Rattle.aadl.specs.Kinds.{PROPERTY-SECTION, PROPERTY-ASSOCIATION, PROPERTY-REF, PROPERTY-EXPRESSION, BOOLEAN-VALUE, INTEGER-VALUE, RANGE-VALUE, BINARY-EXPR, APPLIES-TO, CONTAINMENT-PATH}
+use Rattle.aadl.specs.Words.{bytes}
+use Rattle.aadl.specs.Tokens.{token, tokens}
+use Rattle.aadl.specs.Symbols.{symbols}
+use Rattle.aadl.specs.Reading.{events}
+use Rattle.aadl.specs.Answers.{section-answer, answered, refused}
+use Rattle.aadl.specs.Listing.{listing}
+
+-- THE STARRED TEXTS ----------------------------------------------------------------------------------------------------
+
+pub record Starred : Type 0 where
+  pub c-style : tokens (bytes "0x1F") ≡ token (# ERROR) 4 ∷ []
+  pub two-zeros : tokens (bytes "00x1") ≡ token (# INTEGER-LIT) 2 ∷ token (# IDENT) 2 ∷ []
+  pub no-binary-digit : tokens (bytes "0b2") ≡ token (# INTEGER-LIT) 1 ∷ token (# IDENT) 2 ∷ []
+  pub dots : tokens (bytes "1..2") ≡ token (# INTEGER-LIT) 1 ∷ token (# DOT-DOT) 2 ∷ token (# INTEGER-LIT) 1 ∷ []
+  pub no-fraction : tokens (bytes "1.") ≡ token (# REAL-LIT) 2 ∷ []
+  pub exponent : tokens (bytes "10eV") ≡ token (# REAL-LIT) 3 ∷ token (# IDENT) 1 ∷ []
+  pub unclosed : tokens (bytes "\"\"\"") ≡ token (# STRING-LIT) 3 ∷ []
+  pub bare : section-answer base (bytes "properties") 100 100 ≡ answered 1 1 3
+  pub none : section-answer base (bytes "properties none;") 100 100 ≡ answered 4 3 5
+  pub no-value : section-answer base (bytes "properties A => ;") 100 100 ≡ answered 7 4 11
+  pub no-value-message : getD (events base (symbols (bytes "properties A => ;"))) 7 finish ≡ error (message 5)
+  pub range : section-answer base (bytes "properties A => 1 .. 2;") 100 100 ≡ answered 12 7 19
+  pub range-parent : getD (events base (symbols (bytes "properties A => 1 .. 2;"))) 7 finish ≡ start (# INTEGER-VALUE) 3
+  pub empty : section-answer base [] 100 100 ≡ refused 4 0
+
+pub starred : Starred
+unfolding tokens section-answer
+starred =
+    record {
+      c-style = refl;
+      two-zeros = refl;
+      no-binary-digit = refl;
+      dots = refl;
+      no-fraction = refl;
+      exponent = refl;
+      unclosed = refl;
+      bare = refl;
+      none = refl;
+      no-value = refl;
+      no-value-message = refl;
+      range = refl;
+      range-parent = refl;
+      empty = refl;
+    }
+
+pub printed-listing :
+    listing base (bytes "properties\n  A => 1 ms;\n")
+    ≡ bytes "event,class,kind,last,line,column\n0,S,169,0,1,1\n1,T,60,1,1,1\n2,S,170,0,2,3\n3,S,171,0,2,3\n4,T,33,1,2,3\n5,F,0,0,2,5\n6,T,18,1,2,5\n7,S,183,0,2,8\n8,T,30,1,2,8\n9,T,33,1,2,10\n10,F,0,0,2,12\n11,T,5,1,2,12\n12,F,0,0,3,1\n13,F,0,0,3,1\n"
+unfolding listing
+printed-listing = refl
+
+-- REFUSALS -------------------------------------------------------------------------------------------------------------
+
+abbrev small : Limits
+small = record { bytes = 20; openers = 1 }
+
+abbrev signs : ℕ → List ℕ
+signs n = bytes "properties A => " ++ (replicate n 43 ++ bytes "1;")
+
+-- Each refusal in its case, with its place; 5 and 6 by reading order, and the last opener that is read.
+pub record Refused : Type 0 where
+  pub too-long : section-answer small (bytes "properties A => 1234;") 100 100 ≡ refused 1 20
+  pub not-utf8 : section-answer small (bytes "properties " ++ (194 ∷ 10 ∷ [])) 100 100 ≡ refused 2 11
+  pub no-token-word : section-answer small (bytes "properties none;") 2 100 ≡ refused 3 11
+  pub no-properties : section-answer small (bytes " -- x\n none") 100 100 ≡ refused 4 7
+  pub no-event-word : section-answer small (bytes "properties none ;") 100 4 ≡ refused 5 17
+  pub no-event-at-all : section-answer small (bytes " properties") 100 0 ≡ refused 5 1
+  pub one-opener : section-answer small (bytes "properties A => +1;") 100 16 ≡ answered 9 6 16
+  pub two-openers : section-answer small (bytes "properties A => ++1;") 100 9 ≡ refused 6 17
+  pub two-openers-late : section-answer small (bytes "properties A => ++1;") 100 8 ≡ refused 5 16
+  pub sixty-four : section-answer base (signs 64) 100 1000 ≡ answered 72 69 205
+  pub sixty-five : section-answer base (signs 65) 100 1000 ≡ refused 6 80
+
+pub refusals : Refused
+unfolding section-answer
+refusals =
+    record {
+      too-long = refl;
+      not-utf8 = refl;
+      no-token-word = refl;
+      no-properties = refl;
+      no-event-word = refl;
+      no-event-at-all = refl;
+      one-opener = refl;
+      two-openers = refl;
+      two-openers-late = refl;
+      sixty-four = refl;
+      sixty-five = refl;
+    }
+
+-- MISTAKES THE CONTRACTS SHUT OUT --------------------------------------------------------------------------------------
+
+-- the tree that the events of a text spell, and whether an Error is among them
+abbrev spelled : List ℕ → Forest
+spelled text = spell (events base (symbols text))
+
+abbrev errs : List ℕ → Bool
+errs text = erring any-fault (events base (symbols text))
+
+-- the tree of a section with the one association `A => ..`
+abbrev association-of : Forest → Forest
+association-of rest =
+    node (# PROPERTY-SECTION)
+    (leaf (# PROPERTIES-KW)
+    (node (# PROPERTY-ASSOCIATION) (node (# PROPERTY-REF) (leaf (# IDENT) nil) (leaf (# FAT-ARROW) rest)) nil)) nil
+
+abbrev integer : Forest → Forest
+integer f = node (# INTEGER-VALUE) (leaf (# INTEGER-LIT) nil) f
+
+abbrev ended : Forest
+ended = leaf (# SEMICOLON) nil
+
+pub record Shut-out : Type 0 where
+  -- the sign is over the 1 alone
+  pub signed-sum :
+      spelled (bytes "properties A => -1 + 2;")
+      ≡ association-of (node (# BINARY-EXPR) (node (# PROPERTY-EXPRESSION) (leaf (# MINUS) (integer nil)) (leaf (# PLUS) (integer nil))) ended)
+  -- the `not` is over the range
+  pub negated-range :
+      spelled (bytes "properties A => not 1 .. 2;")
+      ≡ association-of (node (# BOOLEAN-VALUE) (leaf (# NOT-KW) (node (# RANGE-VALUE) (integer (leaf (# DOT-DOT) (integer nil))) nil)) ended)
+  -- `applies to ;` is clean, with an empty path
+  pub applies-to-nothing :
+      spelled (bytes "properties A => 1 applies to ;")
+      ≡ association-of (integer (node (# APPLIES-TO) (leaf (# APPLIES-KW) (leaf (# TO-KW) (node (# CONTAINMENT-PATH) nil nil))) ended))
+  pub no-errors : (errs (bytes "properties A => -1 + 2;") ≡ false) × (errs (bytes "properties A => not 1 .. 2;") ≡ false) × (errs (bytes "properties A => 1 applies to ;") ≡ false)
+
+pub shut-out : Shut-out
+unfolding events symbols spell erring
+shut-out = record { signed-sum = refl; negated-range = refl; applies-to-nothing = refl; no-errors = (refl, refl, refl) }

@@ -1,0 +1,11 @@
+pub mod Limits
+pub mod Kinds
+pub mod Words
+pub mod Utf8
+pub mod Bytes
+pub mod Tokens
+pub mod Symbols
+pub mod Section
+pub mod Reading
+pub mod Answers
+pub mod Listing

@@ -1,0 +1,17 @@
+// What document 01 says, as definitions: specs/ holds them, proofs/ holds what follows from them. The two structs here are the
+// answers that the definitions give and that the calls of later crates return.
+
+// A token at the front of some bytes: its kind and its length in bytes.
+pub struct Token {
+    pub kind: u32,
+    pub len: usize,
+}
+
+// What a call answers: the refusal's number and place (0 and 0 for none), the tokens, the non-trivia tokens taken, the events.
+pub struct Answer {
+    pub number: u32,
+    pub place: usize,
+    pub tokens: usize,
+    pub taken: usize,
+    pub events: usize,
+}

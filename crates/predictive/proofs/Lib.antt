@@ -1,0 +1,13 @@
+pub mod Tests
+pub mod Faults
+pub mod Heads
+pub mod Lookahead
+pub mod Proper
+pub mod Readings
+pub mod Sound
+pub mod Begins
+pub mod Complete
+pub mod Exactly
+pub mod OneMore
+pub mod EventLaws
+pub mod Spell
