@@ -1,23 +1,11 @@
--- Laws of tests: their joining, choices by them, and a test made at every number below a bound, which a closed computation
--- decides. Each is proved by cases on the test or by induction on the bound. Assumes nothing.
+-- Laws of tests: choices by them, and a test made at every number below a bound, which a closed computation decides. Each is proved
+-- by cases on the test or by induction on the bound. Assumes nothing.
 use Prim.Native.Nat.{ℕ, zero, suc, _<_}
 use native.Mathlib.Nat.{le-of-suc-le-suc, not-suc-le-zero, eq-or-lt-of-le}
 use mathlib.Core.Path.{_≡_, refl, sym, subst}
-use mathlib.Core.Logic.{⊎-elim, Or·inl, Or·inr}
-use mathlib.Core.Bool.{Bool, true, false, _&&_, _||_, cond, and-eq-true-iff, or-eq-true-iff}
-
--- mathlib's laws of `&&` and `||`, one direction each
-pub and-left : (a b : Bool) → (a && b) ≡ true → a ≡ true
-and-left a b e = and-eq-true-iff a b .0 e .0
-
-pub and-right : (a b : Bool) → (a && b) ≡ true → b ≡ true
-and-right a b e = and-eq-true-iff a b .0 e .1
-
-pub or-left : (a b : Bool) → a ≡ true → (a || b) ≡ true
-or-left a b e = or-eq-true-iff a b .1 (Or·inl e)
-
-pub or-right : (a b : Bool) → b ≡ true → (a || b) ≡ true
-or-right a b e = or-eq-true-iff a b .1 (Or·inr e)
+use mathlib.Core.Logic.{⊎-elim}
+use mathlib.Core.Bool.{Bool, true, false, _&&_, cond}
+use Rattle.predictive.proofs.Tests.{and-l, and-r}
 
 -- A choice has a property that each of its cases has, where the test is as the case says.
 pub cond-has {ℓ} : {A : Type ℓ} (P : A → Type 0) (t : Bool) (a b : A) → (t ≡ true → P a) → (t ≡ false → P b) → P (cond t a b)
@@ -32,5 +20,5 @@ below f (suc n) = f n && below f n
 pub below-at : (f : ℕ → Bool) (n : ℕ) → below f n ≡ true → (i : ℕ) → i < n → f i ≡ true
 below-at f zero e i h = absurd (not-suc-le-zero h)
 below-at f (suc n) e i h =
-    ⊎-elim (λ q. subst (λ (k : ℕ). f k ≡ true) (sym q) (and-left (f n) (below f n) e))
-    (λ l. below-at f n (and-right (f n) (below f n) e) i l) (eq-or-lt-of-le (le-of-suc-le-suc h))
+    ⊎-elim (λ q. subst (λ (k : ℕ). f k ≡ true) (sym q) (and-l (f n) (below f n) e))
+    (λ l. below-at f n (and-r (f n) (below f n) e) i l) (eq-or-lt-of-le (le-of-suc-le-suc h))

@@ -18,6 +18,7 @@ use Rattle.aadl.specs.Symbols.{symbols}
 use Rattle.aadl.specs.Reading.{events}
 use Rattle.aadl.specs.Answers.{section-answer, answered, refused}
 use Rattle.aadl.specs.Listing.{listing}
+use Rattle.aadl.proofs.Computing.{definitions}
 
 -- THE STARRED TEXTS ----------------------------------------------------------------------------------------------------
 
@@ -38,7 +39,7 @@ pub record Starred : Type 0 where
   pub empty : section-answer base [] 100 100 ≡ refused 4 0
 
 pub starred : Starred
-unfolding tokens section-answer
+unfolding definitions
 starred =
     record {
       c-style = refl;
@@ -60,7 +61,7 @@ starred =
 pub printed-listing :
     listing base (bytes "properties\n  A => 1 ms;\n")
     ≡ bytes "event,class,kind,last,line,column\n0,S,169,0,1,1\n1,T,60,1,1,1\n2,S,170,0,2,3\n3,S,171,0,2,3\n4,T,33,1,2,3\n5,F,0,0,2,5\n6,T,18,1,2,5\n7,S,183,0,2,8\n8,T,30,1,2,8\n9,T,33,1,2,10\n10,F,0,0,2,12\n11,T,5,1,2,12\n12,F,0,0,3,1\n13,F,0,0,3,1\n"
-unfolding listing
+unfolding definitions
 printed-listing = refl
 
 -- REFUSALS -------------------------------------------------------------------------------------------------------------
@@ -86,7 +87,7 @@ pub record Refused : Type 0 where
   pub sixty-five : section-answer base (signs 65) 100 1000 ≡ refused 6 80
 
 pub refusals : Refused
-unfolding section-answer
+unfolding definitions
 refusals =
     record {
       too-long = refl;
@@ -140,5 +141,5 @@ pub record Shut-out : Type 0 where
   pub no-errors : (errs (bytes "properties A => -1 + 2;") ≡ false) × (errs (bytes "properties A => not 1 .. 2;") ≡ false) × (errs (bytes "properties A => 1 applies to ;") ≡ false)
 
 pub shut-out : Shut-out
-unfolding events symbols spell erring
+unfolding definitions
 shut-out = record { signed-sum = refl; negated-range = refl; applies-to-nothing = refl; no-errors = (refl, refl, refl) }

@@ -16,10 +16,11 @@ use Rattle.aadl.specs.Kinds.{NONE-KW, SYSTEM-KW, PROCESS-KW, THREAD-KW, 
 use Rattle.aadl.specs.Kinds.{DEVICE-KW, SUBPROGRAM-KW, DATA-KW, ABSTRACT-KW, MODES-KW, PROPERTIES-KW, IN-KW, OUT-KW, PORT-KW}
 use Rattle.aadl.specs.Kinds.{EVENT-KW, ACCESS-KW, PROVIDES-KW, REQUIRES-KW, FEATURE-KW, CONSTANT-KW, APPLIES-KW, TO-KW, DELTA-KW}
 use Rattle.aadl.specs.Kinds.{BINDING-KW, CLASSIFIER-KW, REFERENCE-KW, COMPUTE-KW, TRUE-KW, FALSE-KW, NOT-KW}
-use Rattle.aadl.specs.Words.{bytes, Entry, table, lower, same, find, kind-of-word}
+use Rattle.aadl.specs.Words.{bytes, words, Entry, table, lower, same, find, kind-of-word}
 use Rattle.aadl.specs.Bytes.{within}
 use Rattle.aadl.specs.Tokens.{token, marks, longest-mark}
-use Rattle.aadl.proofs.Bools.{and-left, and-right, below-at}
+use Rattle.predictive.proofs.Tests.{and-l, and-r}
+use Rattle.aadl.proofs.Bools.{below-at}
 use Rattle.aadl.proofs.Lists.{every, every-at}
 
 -- THE TABLE ------------------------------------------------------------------------------------------------------------
@@ -33,12 +34,12 @@ abbrev pub word-at : ℕ → List ℕ
 word-at i = getD table i no-entry .word
 
 pub table-length : length table ≡ 81
-unfolding table
+unfolding table words
 table-length = refl
 
 -- from `a` to `z`
 pub table-lower-case : every (λ (e : Entry). every (within 97 122) (e .word)) table ≡ true
-unfolding table
+unfolding table words
 table-lower-case = refl
 
 -- the same, for one letter of one word
@@ -47,11 +48,11 @@ letter-lower-case i j h l =
     let b = getD (word-at i) j 0 in
     let w = every-at (λ (e : Entry). every (within 97 122) (e .word)) table table-lower-case no-entry i (omega (arith, table-length)) in
     let e = every-at (within 97 122) (word-at i) w 0 j l in
-    (leb-true 97 b (and-left (leb 97 b) (leb b 122) e), leb-true b 122 (and-right (leb 97 b) (leb b 122) e))
+    (leb-true 97 b (and-l (leb 97 b) (leb b 122) e), leb-true b 122 (and-r (leb 97 b) (leb b 122) e))
 
 -- one test: every word is found, and at its own place
 pub word-at-kind : (i : ℕ) → i < 81 → kind-of-word (word-at i) ≡ 34 + i
-unfolding kind-of-word
+unfolding kind-of-word table words
 word-at-kind i h = eqb-true (kind-of-word (word-at i)) (34 + i) (below-at (λ (k : ℕ). eqb (kind-of-word (word-at k)) (34 + k)) 81 refl i h)
 
 -- Two equal words would have one kind.
@@ -65,7 +66,7 @@ lower-lower b = go (leb 65 b && leb b 90) refl
   where
     go : (t : Bool) → (leb 65 b && leb b 90) ≡ t → lower (lower b) ≡ lower b
     go true e =
-        let h : 65 ≤ b = leb-true 65 b (and-left (leb 65 b) (leb b 90) e) in
+        let h : 65 ≤ b = leb-true 65 b (and-l (leb 65 b) (leb b 90) e) in
         rw (e, lt-leb (b + 32) 90 (omega arith), and-false (leb 65 (b + 32))) refl
     go false e = rw (e, e) refl
 
@@ -90,7 +91,7 @@ same-is-lower [] [] e = refl
 same-is-lower [] (b ∷ bs) e = absurd (false≢true e)
 same-is-lower (v ∷ vs) [] e = absurd (false≢true e)
 same-is-lower (v ∷ vs) (b ∷ bs) e =
-    rw (← eqb-true v (lower b) (and-left (eqb v (lower b)) (same vs bs) e), same-is-lower vs bs (and-right (eqb v (lower b)) (same vs bs) e)) refl
+    rw (← eqb-true v (lower b) (and-l (eqb v (lower b)) (same vs bs) e), same-is-lower vs bs (and-r (eqb v (lower b)) (same vs bs) e)) refl
 
 find-none : (es : List Entry) (w : List ℕ) → ((i : ℕ) → i < length es → map lower w ≡ getD es i no-entry .word → ⊥) → find es w ≡ # IDENT
 find-none [] w h = refl
@@ -129,5 +130,5 @@ pub named-kinds :
     (map (λ (n : String × Kind). kind-of-word (bytes (n .0))) named-words ≡ map (λ (n : String × Kind). # (n .1)) named-words)
     × (map (λ (n : String × Kind). longest-mark 5 marks (bytes (n .0))) named-marks
     ≡ map (λ (n : String × Kind). token (# (n .1)) (length (bytes (n .0)))) named-marks)
-unfolding kind-of-word marks named-words named-marks
+unfolding kind-of-word table words marks named-words named-marks
 named-kinds = (refl, refl)

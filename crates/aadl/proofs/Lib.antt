@@ -4,5 +4,8 @@ pub mod Utf8Laws
 pub mod TokenBounds
 pub mod TokensCover
 pub mod KeywordKinds
-pub mod Examples
 pub mod SectionTest
+pub mod Literal
+pub mod Demand3
+pub mod Computing
+pub mod Examples

@@ -13,12 +13,13 @@ use borrow.Author.Tests.{eqb-true, eqb-false}
 use Rattle.predictive.specs.Grammar.{has, stand}
 use Rattle.aadl.specs.declared.Token.{Token}
 use Rattle.aadl.specs.Kinds.{INTEGER-LIT, REAL-LIT, IDENT, #_}
-use Rattle.aadl.specs.Words.{bytes, words, numbered, find, same, kind-of-word}
+use Rattle.aadl.specs.Words.{bytes, words, table, numbered, find, same, kind-of-word}
 use Rattle.aadl.specs.Bytes.{peek, run, run-end}
 use Rattle.aadl.specs.Bytes.{is-whitespace, is-digit, is-ident-start, is-ident-continue, is-exponent, is-sign, is-grouped, is-based, not-lf}
 use Rattle.aadl.specs.Tokens.{Quoted, quoted, string-of, Number, exponent-end, is-c-style, based, number-from, number-of}
 use Rattle.aadl.specs.Tokens.{word-of, marks, longest-mark, mark-of, token-of}
-use Rattle.aadl.proofs.Bools.{and-left, and-right, or-left, or-right, cond-has}
+use Rattle.predictive.proofs.Tests.{and-l, and-r, or-true-l, or-true-r}
+use Rattle.aadl.proofs.Bools.{cond-has}
 use Rattle.aadl.proofs.Utf8Laws.{sequence-within}
 
 -- A place from i to the end of the text; a token's length is one from 1 on.
@@ -92,11 +93,11 @@ number-upto bs g =
     let dot = eqb (peek bs d) 46 in
     let alone = not (eqb (peek bs (d + 1)) 46) in
     cond-has P (is-c-style bs d) _ _
-    (λ e. run-upto is-ident-continue bs l (or-right (is-ident-start (peek bs 0)) (is-digit (peek bs 0)) g))
+    (λ e. run-upto is-ident-continue bs l (or-true-r (is-ident-start (peek bs 0)) (is-digit (peek bs 0)) g))
     (λ e. cond-has P (eqb (peek bs d) 35) _ _
     (λ f. from-earlier (omega arith) (based-upto bs (d + 1) (omega (arith, inside (λ (b : ℕ). eqb b 35) refl bs d f))))
     (λ f. cond-has P (dot && alone) _ _
-    (λ k. from-earlier (omega arith) (decimals-upto bs (d + 1) (omega (arith, inside (λ (b : ℕ). eqb b 46) refl bs d (and-left dot alone k)))))
+    (λ k. from-earlier (omega arith) (decimals-upto bs (d + 1) (omega (arith, inside (λ (b : ℕ). eqb b 46) refl bs d (and-l dot alone k)))))
     (λ k. cond-has P (is-exponent (peek bs d)) _ _
     (λ m. from-earlier (u .0) (exponent-end-upto bs d (u .1)))
     (λ m. from-earlier (u .0) (run-end-upto is-grouped bs d (u .1))))))
@@ -119,14 +120,14 @@ string-upto bs h = (omega arith, omega (arith, quoted-within false (drop 1 bs), 
 pub stand-within : (ks bs : List ℕ) → stand ks bs ≡ true → length ks ≤ length bs
 stand-within [] bs e = zero-le
 stand-within (k ∷ ks) [] e = absurd (false≢true e)
-stand-within (k ∷ ks) (b ∷ bs) e = suc-le-suc (stand-within ks bs (and-right (eqb b k) (stand ks bs) e))
+stand-within (k ∷ ks) (b ∷ bs) e = suc-le-suc (stand-within ks bs (and-r (eqb b k) (stand ks bs) e))
 
 pub longest-mark-within : (k : ℕ) (ms : List String) (bs : List ℕ) → longest-mark k ms bs .len ≤ length bs
 longest-mark-within k [] bs = zero-le
 longest-mark-within k (m ∷ ms) bs =
     let shorter = ltb (longest-mark (suc k) ms bs .len) (length (bytes m)) in
     cond-has (λ (t : Token). t .len ≤ length bs) (stand (bytes m) bs && shorter) _ _
-    (λ e. stand-within (bytes m) bs (and-left (stand (bytes m) bs) shorter e)) (λ e. longest-mark-within (suc k) ms bs)
+    (λ e. stand-within (bytes m) bs (and-l (stand (bytes m) bs) shorter e)) (λ e. longest-mark-within (suc k) ms bs)
 
 pub mark-upto : (bs : List ℕ) → 1 ≤ length bs → Upto bs 1 (mark-of bs .len)
 unfolding mark-of
@@ -144,11 +145,11 @@ token-within bs h =
     let P : Token → Type 0 = λ (t : Token). Upto bs 1 (t .len) in
     cond-has P (is-whitespace (peek bs 0)) _ _ (λ e. run-upto is-whitespace bs h e)
     (λ e. cond-has P (eqb (peek bs 0) 45 && eqb (peek bs 1) 45) _ _
-    (λ f. run-upto not-lf bs h (dash (eqb-true (peek bs 0) 45 (and-left (eqb (peek bs 0) 45) (eqb (peek bs 1) 45) f))))
+    (λ f. run-upto not-lf bs h (dash (eqb-true (peek bs 0) 45 (and-l (eqb (peek bs 0) 45) (eqb (peek bs 1) 45) f))))
     (λ f. cond-has P (eqb (peek bs 0) 34) _ _ (λ g. string-upto bs h)
     (λ g. cond-has P (is-digit (peek bs 0)) _ _ (λ k. number-upto bs k)
     (λ k. cond-has P (is-ident-start (peek bs 0)) _ _
-    (λ m. run-upto is-ident-continue bs h (or-left (is-ident-start (peek bs 0)) (is-digit (peek bs 0)) m))
+    (λ m. run-upto is-ident-continue bs h (or-true-l (is-ident-start (peek bs 0)) (is-digit (peek bs 0)) m))
     (λ m. mark-upto bs h)))))
   where
     dash : peek bs 0 ≡ 45 → not-lf (peek bs 0) ≡ true
@@ -164,7 +165,7 @@ find-small k (s ∷ ss) w h =
     (λ e. omega arith) (λ e. omega (arith, find-small (suc k) ss w (omega arith)))
 
 pub word-kind-small : (w : List ℕ) → kind-of-word w < 128
-unfolding kind-of-word
+unfolding kind-of-word table words
 word-kind-small w =
     let n : length words ≡ 81 = refl in
     omega (arith, find-small 34 words w (omega arith), n)
@@ -176,7 +177,7 @@ longest-mark-small k (m ∷ ms) bs =
     (λ e. omega arith) (λ e. omega (arith, longest-mark-small (suc k) ms bs))
 
 pub mark-kind-small : (bs : List ℕ) → mark-of bs .kind < 128
-unfolding mark-of
+unfolding mark-of marks
 mark-kind-small bs =
     let n : length marks ≡ 25 = refl in
     cond-has (λ (t : Token). t .kind < 128) (eqb (longest-mark 5 marks bs .len) 0) _ _

@@ -10,7 +10,8 @@ use lib.ListN.{length, drop}
 use lib.Dec.{leb, eqb}
 use borrow.Author.Tests.{eq-eqb, ne-eqb}
 use Rattle.aadl.specs.Utf8.{Range, _to_, table-3-7, fits, fitting, sequence, ill-formed-after, ill-formed}
-use Rattle.aadl.proofs.Bools.{and-right, cond-has}
+use Rattle.predictive.proofs.Tests.{and-r}
+use Rattle.aadl.proofs.Bools.{cond-has}
 use Rattle.aadl.proofs.Lists.{drop-past-head}
 
 -- A SEQUENCE -----------------------------------------------------------------------------------------------------------
@@ -19,7 +20,7 @@ pub fits-within : (row : List Range) (bs : List ℕ) → fits row bs ≡ true �
 fits-within [] bs e = zero-le
 fits-within (low to high ∷ rs) [] e = absurd (false≢true e)
 fits-within (low to high ∷ rs) (b ∷ bs) e =
-    suc-le-suc (fits-within rs bs (and-right (leb low b && leb b high) (fits rs bs) e))
+    suc-le-suc (fits-within rs bs (and-r (leb low b && leb b high) (fits rs bs) e))
 
 pub fitting-within : (rows : List (List Range)) (bs : List ℕ) → fitting rows bs ≤ length bs
 fitting-within [] bs = zero-le

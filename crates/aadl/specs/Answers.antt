@@ -51,12 +51,10 @@ checked (check n case place ∷ cs) a = cond case (refused n place) (checked cs 
 
 -- "The tokens-only call lends no event words, has 1 to 3 and answers taken and events 0."
 unfoldable pub tokens-answer : Limits → (text : List ℕ) → (lent : ℕ) → Answer
-unfolding tokens ill-formed-after
 tokens-answer limits text m = checked (text-checks limits text m) (answered (length (tokens text)) 0 0)
 
 -- "Of the lent event words only the first 32,768 are used."
 unfoldable pub section-answer : Limits → (text : List ℕ) → (lent-tokens lent-events : ℕ) → Answer
-unfolding tokens ill-formed-after symbols start-of events taken pushed too-deep
 section-answer limits text m n =
     checked (text-checks limits text m ++ section-checks limits text (min n most-events))
     (answered (length (tokens text)) (taken (events limits (symbols text))) (length (events limits (symbols text))))

@@ -59,5 +59,4 @@ run p (b ∷ bs) =
 
 -- The place after the run that begins at place i.
 unfoldable pub run-end : (ℕ → Bool) → List ℕ → ℕ → ℕ
-unfolding run
 run-end p bs i = i + run p (drop i bs)

@@ -43,20 +43,17 @@ letter e = take 1 (drop (fields e .0) (bytes "STFE"))
 
 -- An event's line: its number, and the place where the next untaken token starts (a Token's own), or the text's end.
 unfoldable pub event-line : (text : List ℕ) → (number taken : ℕ) → Event → List ℕ
-unfolding start-of
 event-line text n t e =
     let i = start-of text t in
     row (decimal n ∷ letter e ∷ decimal (fields e .1) ∷ decimal (fields e .2) ∷ decimal (line-after 1 (take i text)) ∷ decimal (column-after 1 (take i text)) ∷ [])
 
 -- The lines of events, of which the first has a number and comes after some taken tokens.
 unfoldable pub event-lines : (text : List ℕ) → (number taken : ℕ) → List Event → List ℕ
-unfolding event-line taken
 event-lines text n t [] = []
 event-lines text n t (e ∷ es) = event-line text n t e ++ event-lines text (suc n) (t + taken (e ∷ [])) es
 
 -- "The program lends 16,384 token words and words for 8,192 events." "A refusal prints only `refused,` number`,` place."
 unfoldable pub listing : Limits → List ℕ → List ℕ
-unfolding section-answer events symbols event-lines
 listing limits text =
     let a = section-answer limits text 16384 8192 in
     let lines = bytes "event,class,kind,last,line,column\n" ++ event-lines text 0 0 (events limits (symbols text)) in

@@ -4,7 +4,7 @@ use mathlib.Core.Path.{_≡_}
 use mathlib.Core.Bool.{Bool, true, false}
 use mathlib.Core.List.{List, [], _∷_}
 use lib.ListN.{length}
-use Rattle.predictive.specs.Forest.{Forest, Fault, message, nested}
+use Rattle.predictive.specs.Forest.{Forest, tree, Fault, message, nested}
 use Rattle.predictive.specs.Grammar.{Derives}
 use Rattle.predictive.specs.Reader.{Result, read}
 use Rattle.predictive.specs.Events.{Event, start, token, finish, error, events-of, taken, erring, any-fault, is-nested}
@@ -14,12 +14,10 @@ use Rattle.aadl.specs.Symbols.{shown}
 
 -- The reading of a list of symbols: a loop makes at most a turn for each symbol, and one more.
 unfoldable pub reading : Limits → List ℕ → Result
-unfolding read keywords names shown
 reading limits xs = read grammar (suc (length xs)) (limits .openers) section xs
 
 -- All events of the reading; an opener too many is among them as a nested fault.
 unfoldable pub events : Limits → List ℕ → List Event
-unfolding reading events-of
 events limits xs = events-of (reading limits xs)
 
 -- The events that are pushed before an opener too many stands.
@@ -33,7 +31,6 @@ pushed (error nested ∷ es) = []
 
 -- An opener would be one too many.
 unfoldable pub too-deep : Limits → List ℕ → Bool
-unfolding events erring
 too-deep limits xs = erring is-nested (events limits xs)
 
 -- "Clean: not refused, no Error event, every non-trivia token taken." The first is said where this is used.
@@ -41,9 +38,9 @@ pub record Clean (limits : Limits) (xs : List ℕ) : Type 0 where
   pub no-error : erring any-fault (events limits xs) ≡ false
   pub all-taken : taken (events limits xs) ≡ length xs
 
--- A derivation of the symbols by 01's literal grammar.
-pub Derivation : List ℕ → Forest → Type 0
-Derivation xs f = Derives grammar literal-section f xs []
+-- A derivation: a tree that 01's literal grammar derives from all the symbols.
+abbrev pub Derivation : List ℕ → (t : Forest) → Type 0
+Derivation xs t = (f : Forest) × Derives grammar literal-section f xs [] × (t ≡ tree f)
 
 -- "Class × 16,777,216 + kind × 65,536 + last. Class 0 Start (last = forward parent, 0 for none), 1 Token (last = 1), 2 Finish,
 -- 3 Error (last = message). Kind is 0 for Finish and Error." Class, kind and last of an event (none is pushed for a nested fault):

@@ -25,7 +25,6 @@ keywords = from 34 81
 
 -- "Name: IDENT or keyword."
 unfoldable pub names : List ℕ
-unfolding keywords
 names = # IDENT ∷ keywords
 
 -- a fixed token: where it is missing, message 256 + kind

@@ -37,12 +37,10 @@ placed text i (t ∷ ts) =
     cond (is-trivia (t .kind)) rest (record { symbol = symbol-of (t .kind) (peek text i); place = i } ∷ rest)
 
 unfoldable pub symbols : List ℕ → List ℕ
-unfolding placed tokens
 symbols text = map (λ (p : Placed). p .symbol) (placed text 0 (tokens text))
 
 -- The start of the non-trivia token with a number, from 0; the text's length after the last.
 unfoldable pub start-of : List ℕ → ℕ → ℕ
-unfolding placed tokens
 start-of text n = getD (map (λ (p : Placed). p .place) (placed text 0 (tokens text))) n (length text)
 
 -- The kinds of the non-trivia tokens.
@@ -51,5 +49,4 @@ without-trivia [] = []
 without-trivia (t ∷ ts) = cond (is-trivia (t .kind)) (without-trivia ts) (t .kind ∷ without-trivia ts)
 
 unfoldable pub kinds : List ℕ → List ℕ
-unfolding tokens
 kinds text = without-trivia (tokens text)

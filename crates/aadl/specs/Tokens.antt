@@ -34,7 +34,6 @@ quoted q (b ∷ bs) =
 
 -- The string whose opening quote is the first byte.
 unfoldable pub string-of : List ℕ → Quoted
-unfolding quoted
 string-of bs = more-quoted (quoted false (drop 1 bs))
 
 -- NUMBERS --------------------------------------------------------------------------------------------------------------
@@ -52,7 +51,6 @@ pub record Number : Type 0 where
 
 -- "An exponent is e or E, one sign if there, perhaps no digits": where the one that may stand at i ends.
 unfoldable pub exponent-end : List ℕ → ℕ → ℕ
-unfolding run-end
 exponent-end bs i =
     cond (is-exponent (peek bs i))
     (cond (is-sign (peek bs (i + 1))) (run-end is-digit bs (i + 2)) (run-end is-digit bs (i + 1)))
@@ -77,7 +75,6 @@ based-to bs i e f =
     number kind (exponent-end bs f) (i - 1) i e (eqb (peek bs e) 35) (is-exponent (peek bs f))
 
 unfoldable pub based : List ℕ → ℕ → Number
-unfolding exponent-end
 based bs i =
     let e = run-end is-based bs i in
     based-to bs i e (cond (eqb (peek bs e) 35) (e + 1) e)
@@ -88,7 +85,6 @@ real bs e = number (# REAL-LIT) (exponent-end bs e) 0 0 e false (is-exponent (pe
 
 -- "decimal digits D, then the first case that fits"; d is D's length. C-style: "the whole letter, digit and `_` run is one ERROR".
 unfoldable pub number-from : List ℕ → ℕ → Number
-unfolding exponent-end based run run-end
 number-from bs d =
     cond (is-c-style bs d) (number (# ERROR) (run is-ident-continue bs) 0 0 0 false false)
     (cond (eqb (peek bs d) 35) (based bs (d + 1))
@@ -97,14 +93,12 @@ number-from bs d =
     (number (# INTEGER-LIT) (run-end is-grouped bs d) 0 0 (run-end is-grouped bs d) false false))))
 
 unfoldable pub number-of : List ℕ → Number
-unfolding number-from run
 number-of bs = number-from bs (run is-digit bs)
 
 -- WORDS, PUNCTUATION, ANY OTHER CHARACTER ------------------------------------------------------------------------------
 
 -- "Identifier or keyword: a letter (ASCII) or `_`, then letters, digits and `_`."
 unfoldable pub word-of : List ℕ → Token
-unfolding run kind-of-word
 word-of bs = token (kind-of-word (take (run is-ident-continue bs) bs)) (run is-ident-continue bs)
 
 -- The Rust's list of punctuation, in the order of the kinds 5 to 29.
@@ -122,7 +116,6 @@ longest-mark k (m ∷ ms) bs =
 
 -- "Punctuation takes the longest of the Rust's list. Every other character, NUL included, is one ERROR token."
 unfoldable pub mark-of : List ℕ → Token
-unfolding marks sequence
 mark-of bs =
     let t = longest-mark 5 marks bs in
     cond (eqb (t .len) 0) (token (# ERROR) (max 1 (sequence bs))) t
@@ -131,7 +124,6 @@ mark-of bs =
 
 -- The token that some bytes, at least one, begin with.
 unfoldable pub token-of : List ℕ → Token
-unfolding run string-of number-of word-of mark-of
 token-of bs =
     cond (is-whitespace (peek bs 0)) (token (# WHITESPACE) (run is-whitespace bs))
     (cond (eqb (peek bs 0) 45 && eqb (peek bs 1) 45) (token (# COMMENT) (run not-lf bs))
@@ -142,7 +134,6 @@ token-of bs =
 
 -- The tokens of the bytes that come after k bytes to pass over.
 unfoldable pub tokens-after : ℕ → List ℕ → List Token
-unfolding token-of
 tokens-after k [] = []
 tokens-after (suc k) (b ∷ bs) = tokens-after k bs
 tokens-after zero (b ∷ bs) =
@@ -150,7 +141,6 @@ tokens-after zero (b ∷ bs) =
     t ∷ tokens-after (t .len - 1) bs
 
 unfoldable pub tokens : List ℕ → List Token
-unfolding tokens-after
 tokens bs = tokens-after 0 bs
 
 abbrev pub lengths : List Token → ℕ

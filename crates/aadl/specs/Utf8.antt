@@ -35,12 +35,10 @@ fitting (row ∷ rows) bs = cond (fits row bs) (length row) (fitting rows bs)
 
 -- The length of the well-formed sequence that the bytes begin with, or 0.
 unfoldable pub sequence : List ℕ → ℕ
-unfolding table-3-7
 sequence bs = fitting table-3-7 bs
 
 -- Where the first ill-formed sequence starts, or the length: after k bytes to pass over.
 unfoldable pub ill-formed-after : ℕ → List ℕ → ℕ
-unfolding sequence
 ill-formed-after k [] = 0
 ill-formed-after (suc k) (b ∷ bs) = suc (ill-formed-after k bs)
 ill-formed-after zero (b ∷ bs) =

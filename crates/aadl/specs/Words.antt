@@ -36,7 +36,6 @@ numbered k (s ∷ ss) = record { word = bytes s; kind = k } ∷ numbered (suc k)
 
 -- "keywords 34 to 114"
 unfoldable pub table : List Entry
-unfolding words
 table = numbered 34 words
 
 -- An ASCII capital as its small letter, any other byte as it is.
@@ -56,5 +55,4 @@ find (e ∷ es) w = cond (same (e .word) w) (e .kind) (find es w)
 
 -- The kind of a word: the table's, or IDENT.
 unfoldable pub kind-of-word : List ℕ → ℕ
-unfolding table
 kind-of-word w = find table w

@@ -1,4 +1,5 @@
 pub mod Tests
+pub mod Forests
 pub mod Faults
 pub mod Heads
 pub mod Lookahead

@@ -14,6 +14,7 @@ use Rattle.predictive.specs.Reader.{Result, miss, done, pick, after, fir
 use Rattle.predictive.proofs.Tests.{never, left, right}
 use Rattle.predictive.proofs.Heads.{best-splits}
 use Rattle.predictive.proofs.Lookahead.{single, good, Tables, Fine, good-before, good-either, good-leaning, good-many, good-opt, good-seq, good-suffix, good-until, Good, good-inside, good-opens, good-rule}
+use Rattle.predictive.proofs.Forests.{leaves-then}
 use Rattle.predictive.proofs.Proper.{Whole, whole-node, whole-wrap, Proper, proper-then}
 
 -- ONE NODE -------------------------------------------------------------------------------------------------------------
@@ -249,14 +250,6 @@ module _ (G : Grammar) (Q : Forest → List ℕ → List ℕ → Type 0) (closed
     reading-missing d p g xs m ys e = subst (Has xs) e (step-has d (below G bound d) (below-has d) p (record { tested = g }) xs)
 
 -- LEAVES ---------------------------------------------------------------------------------------------------------------
-
-leaves-then : (f g : Forest) → leaves (f then g) ≡ leaves f ++ leaves g
-unfolding leaves
-leaves-then nil g = refl
-leaves-then (leaf k f) g = ap (λ (l : List ℕ). k ∷ l) (leaves-then f g)
-leaves-then (err m f) g = leaves-then f g
-leaves-then (node k i f) g = rw (leaves-then f g) (sym (append-assoc (leaves i) (leaves f) (leaves g)))
-leaves-then (wrap k a b f) g = rw (leaves-then f g) (sym (append-assoc (leaves a ++ leaves b) (leaves f) (leaves g)))
 
 -- the leaves of f, then what is left, show the symbols
 abbrev Shows : (ℕ → ℕ) → Forest → List ℕ → List ℕ → Type 0

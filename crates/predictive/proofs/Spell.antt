@@ -15,6 +15,7 @@ use lib.ListN.{length, length-append}
 use Rattle.predictive.specs.Forest.{Forest, nil, leaf, err, node, wrap, _then_, tree, Fault}
 use Rattle.predictive.specs.Events.{Event, start, token, finish, error, events, behind-start}
 use Rattle.predictive.specs.Tree.{Step, opens, adds, closes, chain, steps, Open, open-node, build, spell}
+use Rattle.predictive.proofs.Forests.{then-nil, then-assoc}
 use Rattle.predictive.proofs.Proper.{Whole, whole-node, whole-wrap, Proper}
 
 -- The steps of a forest, as if every node had been begun before its first child.
@@ -26,20 +27,6 @@ plain (node k i f) = opens k ∷ (plain i ++ (closes ∷ plain f))
 plain (wrap k a b f) = opens k ∷ (plain a ++ (plain b ++ (closes ∷ plain f)))
 
 -- STEPS BUILD THE TREE -------------------------------------------------------------------------------------------------
-
-pub then-nil : (f : Forest) → f then nil ≡ f
-then-nil nil = refl
-then-nil (leaf k f) = rw (then-nil f)
-then-nil (err m f) = rw (then-nil f)
-then-nil (node k i f) = rw (then-nil f)
-then-nil (wrap k a b f) = rw (then-nil f)
-
-pub then-assoc : (f g h : Forest) → (f then g) then h ≡ f then (g then h)
-then-assoc nil g h = refl
-then-assoc (leaf k f) g h = rw (then-assoc f g h)
-then-assoc (err m f) g h = rw (then-assoc f g h)
-then-assoc (node k i f) g h = rw (then-assoc f g h)
-then-assoc (wrap k a b f) g h = rw (then-assoc f g h)
 
 -- The steps of a forest add its tree to what the innermost open node holds.
 pub build-plain : (f g : Forest) (st : List Open) (ss : List Step) → build g st (plain f ++ ss) ≡ build (g then tree f) st ss

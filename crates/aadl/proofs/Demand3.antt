@@ -1,0 +1,177 @@
+-- Demand 3 for the definitions, for every text and all limits: where no opener too many stands, the reading is clean exactly when
+-- 01's literal grammar derives the text's symbols; the derivation is unique; the tree that the events spell is it; and its leaves
+-- are the kinds of the text's non-trivia tokens. A reading is turned into what `predictive` speaks of, its forest, and the literal
+-- grammar into the one that is read. Assumes nothing.
+use Prim.Native.Nat.{ℕ, suc, _+_, _≤_, _<_}
+use native.Mathlib.Nat.{not-suc-le-zero}
+use native.Mathlib.Omega.{arith}
+use mathlib.Core.Path.{_≡_, refl, sym, ap, ap₂, subst, _∙_}
+use mathlib.Core.Logic.{_↔_, _⊎_, ⊎-elim}
+use mathlib.Core.Bool.{Bool, true, false, cond, _&&_, _||_, or-false}
+use mathlib.Core.List.{List, [], _∷_, _++_, map}
+use lib.ListN.{length, length-append, length-map}
+use lib.Dec.{eqb}
+use borrow.Author.Tests.{eqb-true, ne-eqb}
+use Rattle.predictive.specs.Forest.{Forest, tree, leaves, Fault}
+use Rattle.predictive.specs.Grammar.{Derives}
+use Rattle.predictive.specs.Reader.{Result, miss, done, read}
+use Rattle.predictive.specs.Events.{events-of, taken, erring, any-fault, is-nested}
+use Rattle.predictive.specs.Events
+use Rattle.predictive.specs.Tree.{spell}
+use Rattle.predictive.proofs.Tests.{never, and-l}
+use Rattle.predictive.proofs.Forests.{leaves-tree}
+use Rattle.predictive.proofs.Faults.{faulty, amiss}
+use Rattle.predictive.proofs.EventLaws.{erring-events, taken-events}
+use Rattle.predictive.proofs.Spell.{spell-events}
+use Rattle.predictive.proofs.Readings.{reading-leaves}
+use Rattle.predictive.proofs.Sound.{sound}
+use Rattle.predictive.proofs.Exactly.{derived-clean, derived-read, unique, derived-leaves, derived-proper}
+use Rattle.aadl.specs.declared.Token.{Token}
+use Rattle.aadl.specs.Limits.{Limits}
+use Rattle.aadl.specs.Kinds.{#_, ERROR}
+use Rattle.aadl.specs.Bytes.{peek}
+use Rattle.aadl.specs.Tokens.{tokens}
+use Rattle.aadl.specs.Symbols.{is-trivia, C-STYLE, symbol-of, shown, Placed, placed, symbols, without-trivia, kinds}
+use Rattle.aadl.specs.Section.{grammar, section, literal-section}
+use Rattle.aadl.specs.Reading.{reading, events, too-deep, Clean, Derivation}
+use Rattle.aadl.proofs.Lists.{Each}
+use Rattle.aadl.proofs.TokensCover.{kinds-small}
+use Rattle.aadl.proofs.SectionTest.{tables, grammar-fine, section-good}
+use Rattle.aadl.proofs.Literal.{read-is-literal}
+
+-- WHAT A READING'S EVENTS SAY ------------------------------------------------------------------------------------------
+
+-- An Error with a fault that passes the test is among the events just if the reading is amiss by that test.
+erring-reading : (q : Fault → Bool) (r : Result) → erring q (events-of r) ≡ amiss q r
+unfolding events-of erring amiss
+erring-reading q (miss m ys) = or-false (q m)
+erring-reading q (done f ys) = erring-events q f 0
+
+none-left : (ys : List ℕ) → length ys ≤ 0 → ys ≡ []
+none-left [] h = refl
+none-left (y ∷ ys) h = absurd (not-suc-le-zero h)
+
+module _ (limits : Limits) (xs : List ℕ) where
+  abbrev Derived : Forest → Type 0
+  Derived f = Derives grammar section f xs []
+
+  -- A clean reading is a forest without a fault and leaves nothing, so it is derived.
+  clean-derived : (r : Result) → reading limits xs ≡ r → erring any-fault (events-of r) ≡ false → taken (events-of r) ≡ length xs →
+      (f : Forest) × Derived f
+  unfolding reading events-of amiss
+  clean-derived (miss m ys) e c t = never (sym c ∙ erring-reading any-fault (miss m ys))
+  clean-derived (done f ys) e c t =
+      let s = reading-leaves grammar tables grammar-fine (suc (length xs)) (limits .openers) section section-good xs f ys e in
+      let l : length xs ≡ length (leaves f) + length ys = sym (length-map xs shown) ∙ ap length s ∙ length-append (leaves f) (map shown ys) ∙ ap (λ (n : ℕ). length (leaves f) + n) (length-map ys shown) in
+      let rest = none-left ys (omega (arith, l, t, taken-events f 0)) in
+      let to-end = subst (λ (zs : List ℕ). read grammar (suc (length xs)) (limits .openers) section xs ≡ done f zs) rest e in
+      (f, sound grammar tables grammar-fine (suc (length xs)) (limits .openers) section section-good xs f [] to-end (sym (erring-events any-fault f 0) ∙ c))
+
+  -- What is derived is read as its forest, where no opener too many stands.
+  derived-read-or-deep : (f : Forest) → Derived f → (amiss is-nested (reading limits xs) ≡ true) ⊎ (reading limits xs ≡ done f [])
+  unfolding reading
+  derived-read-or-deep f d =
+      derived-read grammar tables grammar-fine section section-good (suc (length xs)) (limits .openers) xs f (omega arith) d
+
+  not-deep : too-deep limits xs ≡ false → amiss is-nested (reading limits xs) ≡ false
+  unfolding too-deep events
+  not-deep n = sym (erring-reading is-nested (reading limits xs)) ∙ n
+
+  derived-reading : (f : Forest) → too-deep limits xs ≡ false → Derived f → reading limits xs ≡ done f []
+  derived-reading f n d = ⊎-elim (λ (e : amiss is-nested (reading limits xs) ≡ true). never (sym (not-deep n) ∙ e)) (λ e. e) (derived-read-or-deep f d)
+
+  -- The events of what is derived are its forest's.
+  derived-events : (f : Forest) → too-deep limits xs ≡ false → Derived f → events limits xs ≡ Events.events f 0
+  unfolding events events-of
+  derived-events f n d = ap events-of (derived-reading f n d)
+
+-- KINDS AND SYMBOLS ----------------------------------------------------------------------------------------------------
+
+-- a symbol shows the kind of its token
+shown-symbol : (k b : ℕ) → k < 128 → shown (symbol-of k b) ≡ k
+unfolding shown
+shown-symbol k b h = go (eqb k (# ERROR) && eqb b 48) refl
+  where
+    go : (t : Bool) → (eqb k (# ERROR) && eqb b 48) ≡ t → cond (eqb (cond t C-STYLE k) C-STYLE) (# ERROR) (cond t C-STYLE k) ≡ k
+    go true e = sym (eqb-true k (# ERROR) (and-l (eqb k (# ERROR)) (eqb b 48) e))
+    go false e = rw (ne-eqb k C-STYLE (λ q. omega arith))
+
+shown-placed : (text : List ℕ) (i : ℕ) (ts : List Token) → Each (λ (t : Token). t .kind < 128) ts →
+    map shown (map (λ (p : Placed). p .symbol) (placed text i ts)) ≡ without-trivia ts
+unfolding placed
+shown-placed text i [] h = refl
+shown-placed text i (t ∷ ts) h = go (is-trivia (t .kind)) (shown-placed text (i + t .len) ts (h .1))
+  where
+    rest : List Placed
+    rest = placed text (i + t .len) ts
+
+    go : (b : Bool) → map shown (map (λ (p : Placed). p .symbol) rest) ≡ without-trivia ts →
+        map shown (map (λ (p : Placed). p .symbol) (cond b rest (record { symbol = symbol-of (t .kind) (peek text i); place = i } ∷ rest)))
+        ≡ cond b (without-trivia ts) (t .kind ∷ without-trivia ts)
+    go true e = e
+    go false e = ap₂ (λ (k : ℕ) (ks : List ℕ). k ∷ ks) (shown-symbol (t .kind) (peek text i) (h .0)) e
+
+pub symbols-show-kinds : (text : List ℕ) → map shown (symbols text) ≡ kinds text
+unfolding symbols kinds
+symbols-show-kinds text = shown-placed text 0 (tokens text) (kinds-small text)
+
+-- THE THEOREM ----------------------------------------------------------------------------------------------------------
+
+pub record Demand-3 (limits : Limits) (text : List ℕ) : Type 0 where
+  -- the reading is clean exactly when 01's grammar derives the text
+  pub exactly : Clean limits (symbols text) ↔ ((t : Forest) × Derivation (symbols text) t)
+  -- the derivation is unique
+  pub unique : (t u : Forest) → Derivation (symbols text) t → Derivation (symbols text) u → t ≡ u
+  -- the tree that the events spell is it
+  pub spelled : (t : Forest) → Derivation (symbols text) t → spell (events limits (symbols text)) ≡ t
+  -- its leaves are the kinds of the non-trivia tokens
+  pub its-leaves : (t : Forest) → Derivation (symbols text) t → leaves t ≡ kinds text
+
+-- The tree is that of a forest which the grammar as it is read derives.
+as-read : {xs : List ℕ} {t : Forest} (d : Derivation xs t) → Derives grammar section (d .0) xs []
+as-read {xs} d = read-is-literal (d .0) xs .1 (d .1)
+
+-- Two derivations of the same symbols are the same tree, with no condition on depth.
+pub one-derivation : (xs : List ℕ) (t u : Forest) → Derivation xs t → Derivation xs u → t ≡ u
+one-derivation xs t u d e =
+    d .2
+    ∙ ap tree (unique grammar tables grammar-fine section section-good xs (d .0) (e .0) (as-read d) (as-read e))
+    ∙ sym (e .2)
+
+clean-exactly : (limits : Limits) (xs : List ℕ) → too-deep limits xs ≡ false → Clean limits xs ↔ ((t : Forest) × Derivation xs t)
+unfolding events
+clean-exactly limits xs n = (to, from)
+  where
+    to : Clean limits xs → (t : Forest) × Derivation xs t
+    to c =
+        let d = clean-derived limits xs (reading limits xs) refl (c .no-error) (c .all-taken) in
+        (tree (d .0), (d .0, read-is-literal (d .0) xs .0 (d .1), refl))
+
+    from : ((t : Forest) × Derivation xs t) → Clean limits xs
+    from u =
+        let f = u .1 .0 in
+        let e = derived-events limits xs f n (as-read (u .1)) in
+        let l = derived-leaves grammar tables grammar-fine section section-good xs f (as-read (u .1)) in
+        record {
+          no-error = ap (erring any-fault) e ∙ erring-events any-fault f 0 ∙ derived-clean grammar (as-read (u .1));
+          all-taken = ap taken e ∙ taken-events f 0 ∙ ap length l ∙ length-map xs shown;
+        }
+
+spelled-derivation : (limits : Limits) (xs : List ℕ) (t : Forest) → too-deep limits xs ≡ false → Derivation xs t → spell (events limits xs) ≡ t
+spelled-derivation limits xs t n d =
+    ap spell (derived-events limits xs (d .0) n (as-read d))
+    ∙ spell-events (d .0) (derived-proper grammar tables grammar-fine section section-good xs (d .0) (as-read d))
+    ∙ sym (d .2)
+
+derivation-leaves : (xs : List ℕ) (t : Forest) → Derivation xs t → leaves t ≡ map shown xs
+derivation-leaves xs t d =
+    ap leaves (d .2) ∙ leaves-tree (d .0) ∙ derived-leaves grammar tables grammar-fine section section-good xs (d .0) (as-read d)
+
+pub demand-3 : (limits : Limits) (text : List ℕ) → too-deep limits (symbols text) ≡ false → Demand-3 limits text
+demand-3 limits text n =
+    record {
+      exactly = clean-exactly limits (symbols text) n;
+      unique = one-derivation (symbols text);
+      spelled = λ t d. spelled-derivation limits (symbols text) t n d;
+      its-leaves = λ t d. derivation-leaves (symbols text) t d ∙ symbols-show-kinds text;
+    }
