@@ -7,8 +7,8 @@ use native.Mathlib.Nat.{not-suc-le-zero}
 use native.Mathlib.Omega.{arith}
 use mathlib.Core.Path.{_≡_, refl, sym, ap, ap₂, subst, _∙_}
 use mathlib.Core.Logic.{_↔_, _⊎_, ⊎-elim}
-use mathlib.Core.Bool.{Bool, true, false, cond, _&&_, _||_, or-false}
-use mathlib.Core.List.{List, [], _∷_, _++_, map}
+use mathlib.Core.Bool.{Bool, true, false, cond, _&&_, or-false}
+use mathlib.Core.List.{List, [], _∷_, map}
 use lib.ListN.{length, length-append, length-map}
 use lib.Dec.{eqb}
 use borrow.Author.Tests.{eqb-true, ne-eqb}
@@ -20,7 +20,7 @@ use Rattle.predictive.specs.Events
 use Rattle.predictive.specs.Tree.{spell}
 use Rattle.predictive.proofs.Tests.{never, and-l}
 use Rattle.predictive.proofs.Forests.{leaves-tree}
-use Rattle.predictive.proofs.Faults.{faulty, amiss}
+use Rattle.predictive.proofs.Faults.{amiss}
 use Rattle.predictive.proofs.EventLaws.{erring-events, taken-events}
 use Rattle.predictive.proofs.Spell.{spell-events}
 use Rattle.predictive.proofs.Readings.{reading-leaves}
@@ -32,7 +32,7 @@ use Rattle.aadl.specs.Kinds.{#_, ERROR}
 use Rattle.aadl.specs.Bytes.{peek}
 use Rattle.aadl.specs.Tokens.{tokens}
 use Rattle.aadl.specs.Symbols.{is-trivia, C-STYLE, symbol-of, shown, Placed, placed, symbols, without-trivia, kinds}
-use Rattle.aadl.specs.Section.{grammar, section, literal-section}
+use Rattle.aadl.specs.Section.{grammar, section}
 use Rattle.aadl.specs.Reading.{reading, events, too-deep, Clean, Derivation}
 use Rattle.aadl.proofs.Lists.{Each}
 use Rattle.aadl.proofs.TokensCover.{kinds-small}

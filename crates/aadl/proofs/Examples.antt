@@ -4,14 +4,14 @@ use Prim.Native.Nat.{ℕ}
 use mathlib.Core.Path.{_≡_, refl}
 use mathlib.Core.Bool.{Bool, true, false}
 use mathlib.Core.List.{List, [], _∷_, _++_}
-use lib.ListN.{length, getD, replicate}
-use Rattle.predictive.specs.Forest.{Forest, nil, leaf, node, message}
-use Rattle.predictive.specs.Events.{Event, start, finish, error, erring, any-fault}
+use lib.ListN.{getD, replicate}
+use lib.Dec.{eqb}
+use Rattle.predictive.specs.Forest.{Forest, nil, leaf, node, _then_, Fault, message, nested}
+use Rattle.predictive.specs.Events.{start, finish, error, erring, any-fault}
 use Rattle.predictive.specs.Tree.{spell}
-use Rattle.aadl.specs.declared.Token.{Token}
 use Rattle.aadl.specs.Limits.{Limits, base}
-use Rattle.aadl.specs.Kinds.{#_, ERROR, SEMICOLON, DOT-DOT, FAT-ARROW, PLUS, MINUS, INTEGER-LIT, REAL-LIT, STRING-LIT, IDENT, PROPERTIES-KW, APPLIES-KW, TO-KW, NOT-KW}
-use Rattle.aadl.specs.Kinds.{PROPERTY-SECTION, PROPERTY-ASSOCIATION, PROPERTY-REF, PROPERTY-EXPRESSION, BOOLEAN-VALUE, INTEGER-VALUE, RANGE-VALUE, BINARY-EXPR, APPLIES-TO, CONTAINMENT-PATH}
+use Rattle.aadl.specs.Kinds.{#_, ERROR, SEMICOLON, DOT-DOT, L-PAREN, R-PAREN, FAT-ARROW, PLUS, MINUS, STAR, INTEGER-LIT, REAL-LIT, STRING-LIT, IDENT, PROPERTIES-KW, APPLIES-KW, TO-KW, NOT-KW, IN-KW, OUT-KW, EVENT-KW, DATA-KW, PORT-KW, CLASSIFIER-KW}
+use Rattle.aadl.specs.Kinds.{DIRECTION, PROTOTYPE-BINDING, PROTOTYPE-BINDING-LIST, CLASSIFIER-REF, CLASSIFIER-VALUE, PROPERTY-SECTION, PROPERTY-ASSOCIATION, PROPERTY-REF, PROPERTY-EXPRESSION, BOOLEAN-VALUE, INTEGER-VALUE, RANGE-VALUE, BINARY-EXPR, APPLIES-TO, CONTAINMENT-PATH}
 use Rattle.aadl.specs.Words.{bytes}
 use Rattle.aadl.specs.Tokens.{token, tokens}
 use Rattle.aadl.specs.Symbols.{symbols}
@@ -112,6 +112,10 @@ spelled text = spell (events base (symbols text))
 abbrev errs : List ℕ → Bool
 errs text = erring any-fault (events base (symbols text))
 
+abbrev is-8 : Fault → Bool
+is-8 (message m) = eqb m 8
+is-8 nested = false
+
 -- the tree of a section with the one association `A => ..`
 abbrev association-of : Forest → Forest
 association-of rest =
@@ -143,3 +147,53 @@ pub record Shut-out : Type 0 where
 pub shut-out : Shut-out
 unfolding definitions
 shut-out = record { signed-sum = refl; negated-range = refl; applies-to-nothing = refl; no-errors = (refl, refl, refl) }
+
+-- PRECEDENCE AND PREFERENCES -------------------------------------------------------------------------------------------
+
+abbrev binary : (operator : ℕ) → (left right : Forest) → Forest → Forest
+binary k a b f = node (# BINARY-EXPR) (a then leaf k b) f
+
+-- the value `classifier (c (x => ..))`, with what stands after the `=>`
+abbrev bound-to : Forest → Forest
+bound-to f =
+    association-of
+    (node (# CLASSIFIER-VALUE)
+    (leaf (# CLASSIFIER-KW)
+    (leaf (# L-PAREN)
+    (node (# CLASSIFIER-REF)
+    (leaf (# IDENT)
+    (node (# PROTOTYPE-BINDING-LIST)
+    (leaf (# L-PAREN) (node (# PROTOTYPE-BINDING) (leaf (# IDENT) (leaf (# FAT-ARROW) f)) (leaf (# R-PAREN) nil)))
+    nil))
+    (leaf (# R-PAREN) nil)))) ended)
+
+pub record Preferred : Type 0 where
+  -- `*` binds before `+`, on either side, and both lean to the left
+  pub star-right : spelled (bytes "properties A => 1 + 2 * 3;") ≡ association-of (binary (# PLUS) (integer nil) (binary (# STAR) (integer nil) (integer nil) nil) ended)
+  pub star-left : spelled (bytes "properties A => 1 * 2 + 3;") ≡ association-of (binary (# PLUS) (binary (# STAR) (integer nil) (integer nil) nil) (integer nil) ended)
+  pub leans-left : spelled (bytes "properties A => 1 - 2 - 3;") ≡ association-of (binary (# MINUS) (binary (# MINUS) (integer nil) (integer nil) nil) (integer nil) ended)
+  -- A: the sum belongs to the `not`
+  pub negated-sum : spelled (bytes "properties A => not 1 + 2;") ≡ association-of (node (# BOOLEAN-VALUE) (leaf (# NOT-KW) (binary (# PLUS) (integer nil) (integer nil) nil)) ended)
+  -- B: the longest Direction and the longest Category
+  pub longest-forms :
+      spelled (bytes "properties A => classifier (c (x => in out event data port T));")
+      ≡ bound-to
+      (node (# DIRECTION) (leaf (# IN-KW) (leaf (# OUT-KW) nil))
+      (leaf (# EVENT-KW) (leaf (# DATA-KW) (leaf (# PORT-KW) (node (# CLASSIFIER-REF) (leaf (# IDENT) nil) nil)))))
+  -- B: a lone `virtual` is no Name
+  pub lone-virtual : erring is-8 (events base (symbols (bytes "properties A => classifier (c (x => virtual T));"))) ≡ true
+  -- C: the `in` belongs to the operand, so that no Modes stand
+  pub name-after-colons : errs (bytes "properties A => b :: in modes (m);") ≡ true
+
+pub preferred : Preferred
+unfolding definitions
+preferred =
+    record {
+      star-right = refl;
+      star-left = refl;
+      leans-left = refl;
+      negated-sum = refl;
+      longest-forms = refl;
+      lone-virtual = refl;
+      name-after-colons = refl;
+    }

@@ -4,19 +4,19 @@
 use Prim.Native.Nat.{ℕ}
 use mathlib.Core.Path.{_≡_, refl, sym, _∙_}
 use mathlib.Core.Logic.{_↔_}
-use mathlib.Core.Bool.{Bool, true, false, not, _||_}
+use mathlib.Core.Bool.{true, false}
 use mathlib.Core.List.{List, [], _∷_}
 use lib.Dec.{eqb}
 use borrow.Author.Tests.{eq-eqb}
 use Rattle.predictive.specs.Forest.{Forest}
-use Rattle.predictive.specs.Grammar.{Head, one, at, has, Choice, free, unless, May, Part, tok, look, seq, either, opt, many, inside}
-use Rattle.predictive.specs.Grammar.{Derives, Many, d-tok, d-look, d-seq, d-left, d-right, d-some, d-none, d-many, d-inside, m-nil, m-cons}
+use Rattle.predictive.specs.Grammar.{Head, one, at, Part, look, seq}
+use Rattle.predictive.specs.Grammar.{Derives, Many, d-look, d-seq, d-left, d-right, d-some, d-none, d-many, d-inside, m-nil, m-cons}
 use Rattle.predictive.specs.Reader.{ones, twos, heads-of, null, first}
 use Rattle.predictive.proofs.Tests.{never, or-true-l}
 use Rattle.predictive.proofs.Heads.{apart, clear, disjoint}
 use Rattle.predictive.proofs.Begins.{begins-apart}
 use Rattle.aadl.specs.Kinds.{#_, COLON, COLON-COLON, IDENT, NONE-KW}
-use Rattle.aadl.specs.Section.{Rule, keywords, names, token, grammar, property-name, property-ref, association-rest, literal-association, read-association, literal-section, section}
+use Rattle.aadl.specs.Section.{Rule, token, grammar, property-name, property-ref, association-rest, literal-association, read-association, literal-section, section}
 use Rattle.aadl.proofs.SectionTest.{tables, grammar-fine}
 
 abbrev D : Part Rule → Forest → List ℕ → List ℕ → Type 0

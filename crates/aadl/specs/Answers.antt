@@ -6,11 +6,11 @@ use mathlib.Core.List.{List, [], _∷_, _++_, map}
 use lib.ListN.{length, take, drop, replicate}
 use lib.Dec.{ltb, eqb}
 use Rattle.predictive.specs.Grammar.{is}
-use Rattle.predictive.specs.Events.{Event, taken}
+use Rattle.predictive.specs.Events.{taken}
 use Rattle.aadl.specs.declared.Answer.{Answer}
 use Rattle.aadl.specs.Limits.{Limits, most-events}
 use Rattle.aadl.specs.Kinds.{PROPERTIES-KW, #_}
-use Rattle.aadl.specs.Utf8.{ill-formed-after, ill-formed}
+use Rattle.aadl.specs.Utf8.{ill-formed}
 use Rattle.aadl.specs.Tokens.{tokens, lengths, token-word}
 use Rattle.aadl.specs.Symbols.{symbols, start-of}
 use Rattle.aadl.specs.Reading.{events, pushed, too-deep, event-word}

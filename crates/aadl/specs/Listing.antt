@@ -1,12 +1,11 @@
 -- "Header, then number, class letter S T F E, kind, last, line, column, parted by commas, no quoting, LF after each line."
 -- Assumes nothing.
 use Prim.Native.Nat.{ℕ, zero, suc, _+_, _/_, _%_}
-use mathlib.Core.Bool.{Bool, cond}
+use mathlib.Core.Bool.{cond}
 use mathlib.Core.List.{List, [], _∷_, _++_}
 use lib.ListN.{take, drop}
 use lib.Dec.{ltb, eqb}
 use Rattle.predictive.specs.Events.{Event, taken}
-use Rattle.aadl.specs.declared.Answer.{Answer}
 use Rattle.aadl.specs.Limits.{Limits}
 use Rattle.aadl.specs.Words.{bytes}
 use Rattle.aadl.specs.Symbols.{symbols, start-of}
@@ -26,11 +25,11 @@ decimal n = digits n n
 -- "Line and column, from 1, ..; LF ends a line; columns are bytes": of the place behind the bytes bs, from a line and a column on.
 abbrev pub line-after : ℕ → List ℕ → ℕ
 line-after l [] = l
-line-after l (b ∷ bs) = cond (eqb b 10) (line-after (suc l) bs) (line-after l bs)
+line-after l (b ∷ bs) = line-after (cond (eqb b 10) (suc l) l) bs
 
 abbrev pub column-after : ℕ → List ℕ → ℕ
 column-after c [] = c
-column-after c (b ∷ bs) = cond (eqb b 10) (column-after 1 bs) (column-after (suc c) bs)
+column-after c (b ∷ bs) = column-after (cond (eqb b 10) 1 (suc c)) bs
 
 -- fields parted by commas, and LF
 abbrev pub row : List (List ℕ) → List ℕ

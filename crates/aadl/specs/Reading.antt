@@ -1,16 +1,15 @@
 -- The reading of a text's symbols, what is derived, and the event word. Assumes nothing.
 use Prim.Native.Nat.{ℕ, zero, suc, _+_, _*_, _/_, _%_}
 use mathlib.Core.Path.{_≡_}
-use mathlib.Core.Bool.{Bool, true, false}
+use mathlib.Core.Bool.{Bool, false}
 use mathlib.Core.List.{List, [], _∷_}
 use lib.ListN.{length}
-use Rattle.predictive.specs.Forest.{Forest, tree, Fault, message, nested}
+use Rattle.predictive.specs.Forest.{Forest, tree, message, nested}
 use Rattle.predictive.specs.Grammar.{Derives}
 use Rattle.predictive.specs.Reader.{Result, read}
 use Rattle.predictive.specs.Events.{Event, start, token, finish, error, events-of, taken, erring, any-fault, is-nested}
 use Rattle.aadl.specs.Limits.{Limits}
-use Rattle.aadl.specs.Section.{keywords, names, grammar, section, literal-section}
-use Rattle.aadl.specs.Symbols.{shown}
+use Rattle.aadl.specs.Section.{grammar, section, literal-section}
 
 -- The reading of a list of symbols: a loop makes at most a turn for each symbol, and one more.
 unfoldable pub reading : Limits → List ℕ → Result

@@ -13,8 +13,8 @@ use Rattle.aadl.specs.Tokens.{tokens}
 abbrev pub is-trivia : ℕ → Bool
 is-trivia k = eqb k (# WHITESPACE) || eqb k (# COMMENT)
 
--- A C-style literal is the ERROR token whose first byte is `0`. It has a symbol of its own, which no token word can hold as a
--- kind; every other token's symbol is its kind.
+-- A C-style literal is the ERROR token whose first byte is `0`. It has a symbol of its own, above every kind;
+-- every other token's symbol is its kind.
 abbrev pub C-STYLE : ℕ
 C-STYLE = 258
 
@@ -46,7 +46,9 @@ start-of text n = getD (map (λ (p : Placed). p .place) (placed text 0 (tokens t
 -- The kinds of the non-trivia tokens.
 abbrev pub without-trivia : List Token → List ℕ
 without-trivia [] = []
-without-trivia (t ∷ ts) = cond (is-trivia (t .kind)) (without-trivia ts) (t .kind ∷ without-trivia ts)
+without-trivia (t ∷ ts) =
+    let rest = without-trivia ts in
+    cond (is-trivia (t .kind)) rest (t .kind ∷ rest)
 
 unfoldable pub kinds : List ℕ → List ℕ
 kinds text = without-trivia (tokens text)

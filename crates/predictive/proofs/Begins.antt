@@ -1,6 +1,6 @@
 -- How a derivation begins: with one of its part's first heads, and it takes a symbol; or the part may be empty, and it takes none. So
 -- what follows a part, or is left out or passed over, is known by its heads. By induction over the derivation. Assumes nothing.
-use Prim.Native.Nat.{ℕ, zero, suc, _≤_, _<_}
+use Prim.Native.Nat.{ℕ, _≤_, _<_}
 use native.Mathlib.Omega.{arith}
 use mathlib.Core.Path.{_≡_, refl, sym, subst, _∙_}
 use mathlib.Core.Bool.{Bool, true, false, not, _&&_, _||_}

@@ -4,22 +4,22 @@
 -- derivation nests as deep as openers are left, so with enough of them there is none. Assumes nothing.
 use Prim.Native.Nat.{ℕ, zero, suc, _+_, _≤_, _<_}
 use native.Mathlib.Omega.{arith}
-use mathlib.Core.Path.{_≡_, refl, sym, ap, subst, _∙_}
-use mathlib.Core.Bool.{Bool, true, false, not, _&&_, _||_}
+use mathlib.Core.Path.{_≡_, refl, ap, _∙_}
+use mathlib.Core.Bool.{true, false}
 use mathlib.Core.List.{List, [], _∷_, _++_}
-use lib.ListN.{length, drop, length-append}
+use lib.ListN.{length, drop}
 use lib.Dec.{eqb}
-use borrow.Author.Tests.{not-true, eq-eqb}
+use borrow.Author.Tests.{eq-eqb}
 use Rattle.predictive.specs.Forest.{Forest, nil, leaf, wrap}
-use Rattle.predictive.specs.Grammar.{Head, one, is, at, has, Form, kinds-of, shape, Choice, free, unless, May, Part, many, leaning, Grammar}
+use Rattle.predictive.specs.Grammar.{Head, one, is, at, has, Form, kinds-of, shape, Part, many, leaning, Grammar}
 use Rattle.predictive.specs.Grammar.{Derives, Many, Leaning, d-tok, d-pair, d-look, d-any, d-any-end, d-longest, d-no-form, d-seq, d-left, d-right, d-some, d-none, d-many, d-until, d-at-once, d-inside, d-alone, d-with, d-leaning, d-before, d-opens, d-rule, m-nil, m-cons, l-one, l-more}
-use Rattle.predictive.specs.Reader.{Result, done, firstly, expected, take-one, take-two, take-look, take-any, take-form, repeat, lean, within, null, only, heads-of, first, step, below, read}
+use Rattle.predictive.specs.Reader.{Result, done, firstly, expected, take-one, take-two, take-look, take-any, take-form, repeat, lean, within, null, first, step, below, read}
 use Rattle.predictive.specs.Events.{is-nested}
-use Rattle.predictive.proofs.Tests.{and-both, or-l, or-true-l, left}
+use Rattle.predictive.proofs.Tests.{and-both, or-l, or-true-l}
 use Rattle.predictive.proofs.Faults.{amiss, amiss-after, amiss-firstly, keeps-beside, keeps-then, keeps-node, keeps-wrap, keeps-suffix, keeps-lean, keeps-lean-on, Agrees, excused, agree, agrees-after, agrees-firstly, agrees-first, agrees-second, agrees-done}
 use Rattle.predictive.proofs.Begins.{shrinks, stands, falls, begins, begins-many, begins-leaning, follows, absent, passed}
 use Rattle.predictive.proofs.Heads.{disjoint-excludes, at-l, at-r, at-neither, within-absent, minus-absent, drop-append}
-use Rattle.predictive.proofs.Lookahead.{open-heads, fits, sides, ends, good, Tables, Fine, good-before, good-either, good-leaning, good-many, good-opt, good-seq, good-suffix, good-until, Good, good-inside, good-opens, good-rule}
+use Rattle.predictive.proofs.Lookahead.{ends, good, Tables, Fine, good-before, good-either, good-leaning, good-many, good-opt, good-seq, good-suffix, good-until, Good, good-inside, good-opens, good-rule}
 
 -- WHAT THE READER GIVES ------------------------------------------------------------------------------------------------
 

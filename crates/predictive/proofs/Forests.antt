@@ -2,7 +2,7 @@
 -- Each goes down the first forest. Assumes nothing.
 use Prim.Native.Nat.{ℕ}
 use mathlib.Core.Path.{_≡_, refl, sym, ap, ap₂, _∙_}
-use mathlib.Core.List.{List, [], _∷_, _++_, append-assoc}
+use mathlib.Core.List.{List, _∷_, _++_, append-assoc}
 use Rattle.predictive.specs.Forest.{Forest, nil, leaf, err, node, wrap, _then_, tree, leaves}
 
 pub then-nil : (f : Forest) → f then nil ≡ f

@@ -12,3 +12,4 @@ pub mod Exactly
 pub mod OneMore
 pub mod EventLaws
 pub mod Spell
+pub mod Examples

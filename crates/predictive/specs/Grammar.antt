@@ -1,13 +1,13 @@
 -- Grammars as data, and what a part of a grammar derives: a derivation reads a list of symbols down to a rest and writes
 -- a forest. What follows a part is thus at hand, and a preference just looks at it. Assumes nothing.
-use Prim.Native.Nat.{ℕ, zero, suc}
+use Prim.Native.Nat.{ℕ}
 use mathlib.Core.Path.{_≡_}
 use mathlib.Core.Bool.{Bool, true, false, cond, _||_, _&&_}
-use mathlib.Core.List.{List, [], _∷_, _++_, map}
+use mathlib.Core.List.{List, [], _∷_, _++_}
 use mathlib.Core.Option.{Option, none, some}
 use lib.ListN.{length}
 use lib.Dec.{eqb, ltb}
-use Rattle.predictive.specs.Forest.{Forest, nil, leaf, err, node, wrap, _then_, Fault, message}
+use Rattle.predictive.specs.Forest.{Forest, nil, leaf, err, node, wrap, _then_, message}
 
 -- WHAT STANDS ----------------------------------------------------------------------------------------------------------
 
@@ -64,7 +64,9 @@ longer c (some e) = cond (ltb (length (kinds-of c)) (length (kinds-of e))) (some
 -- The longest listed form that stands.
 unfoldable pub best : List Form → List ℕ → Option Form
 best [] xs = none
-best (c ∷ cs) xs = cond (stand (kinds-of c) xs) (longer c (best cs xs)) (best cs xs)
+best (c ∷ cs) xs =
+    let e = best cs xs in
+    cond (stand (kinds-of c) xs) (longer c e) e
 
 abbrev pub row-of : (ℕ → ℕ) → List ℕ → Forest → Forest
 row-of shown [] f = f

@@ -6,7 +6,7 @@ use mathlib.Core.List.{List, [], _∷_, _++_}
 use mathlib.Core.Option.{Option, none, some}
 use lib.ListN.{length, drop}
 use Rattle.predictive.specs.Forest.{Forest, nil, leaf, err, node, wrap, _then_, Fault, message, nested}
-use Rattle.predictive.specs.Grammar.{Head, one, two, all, is, starts, at, has, Form, kinds-of, best, shape, Choice, free, unless, Part, tok, pair, look, any, longest, wrong, fail, seq, either, opt, many, until, inside, suffix, leaning, before, opens, rule, Grammar}
+use Rattle.predictive.specs.Grammar.{Head, one, two, all, is, at, has, Form, kinds-of, best, shape, Part, tok, pair, look, any, longest, wrong, fail, seq, either, opt, many, until, inside, suffix, leaning, before, opens, rule, Grammar}
 
 -- What a reading gives: the forest read, or the fault of a part whose first token is missing; and the symbols left.
 pub data Result : Type 0 where
