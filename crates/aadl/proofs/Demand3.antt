@@ -1,24 +1,22 @@
 -- Demand 3 for the definitions, for every text and all limits: where no opener too many stands, the reading is clean exactly when
--- 01's literal grammar derives the text's symbols; the derivation is unique; the tree that the events spell is it; and its leaves
--- are the kinds of the text's non-trivia tokens. A reading is turned into what `predictive` speaks of, its forest, and the literal
--- grammar into the one that is read. Assumes nothing.
-use Prim.Native.Nat.{ℕ, suc, _+_, _≤_, _<_}
+-- 01's literal grammar derives the kinds of the text's non-trivia tokens; the derivation is unique; the tree that the events spell
+-- is it; and its leaves are those kinds. A reading is turned into what `predictive` speaks of, its forest; the literal grammar into
+-- the one that is read (`Literal`); and the kinds into the symbols, in which C-style literals are marked (`Unmarked`). Assumes nothing.
+use Prim.Native.Nat.{ℕ, suc, _+_, _≤_}
 use native.Mathlib.Nat.{not-suc-le-zero}
 use native.Mathlib.Omega.{arith}
-use mathlib.Core.Path.{_≡_, refl, sym, ap, ap₂, subst, _∙_}
+use mathlib.Core.Path.{_≡_, refl, sym, ap, subst, _∙_}
 use mathlib.Core.Logic.{_↔_, _⊎_, ⊎-elim}
-use mathlib.Core.Bool.{Bool, true, false, cond, _&&_, or-false}
+use mathlib.Core.Bool.{Bool, true, false, or-false}
 use mathlib.Core.List.{List, [], _∷_, map}
 use lib.ListN.{length, length-append, length-map}
-use lib.Dec.{eqb}
-use borrow.Author.Tests.{eqb-true, ne-eqb}
 use Rattle.predictive.specs.Forest.{Forest, tree, leaves, Fault}
 use Rattle.predictive.specs.Grammar.{Derives}
 use Rattle.predictive.specs.Reader.{Result, miss, done, read}
 use Rattle.predictive.specs.Events.{events-of, taken, erring, any-fault, is-nested}
 use Rattle.predictive.specs.Events
 use Rattle.predictive.specs.Tree.{spell}
-use Rattle.predictive.proofs.Tests.{never, and-l}
+use Rattle.predictive.proofs.Tests.{never}
 use Rattle.predictive.proofs.Forests.{leaves-tree}
 use Rattle.predictive.proofs.Faults.{amiss}
 use Rattle.predictive.proofs.EventLaws.{erring-events, taken-events}
@@ -26,18 +24,14 @@ use Rattle.predictive.proofs.Spell.{spell-events}
 use Rattle.predictive.proofs.Readings.{reading-leaves}
 use Rattle.predictive.proofs.Sound.{sound}
 use Rattle.predictive.proofs.Exactly.{derived-clean, derived-read, unique, derived-leaves, derived-proper}
-use Rattle.aadl.specs.declared.Token.{Token}
 use Rattle.aadl.specs.Limits.{Limits}
-use Rattle.aadl.specs.Kinds.{#_, ERROR}
-use Rattle.aadl.specs.Bytes.{peek}
-use Rattle.aadl.specs.Tokens.{tokens}
-use Rattle.aadl.specs.Symbols.{is-trivia, C-STYLE, symbol-of, shown, Placed, placed, symbols, without-trivia, kinds}
+use Rattle.aadl.specs.Symbols.{shown, symbols, kinds}
 use Rattle.aadl.specs.Section.{grammar, section}
 use Rattle.aadl.specs.Reading.{reading, events, too-deep, Clean, Derivation}
-use Rattle.aadl.proofs.Lists.{Each}
-use Rattle.aadl.proofs.TokensCover.{kinds-small}
 use Rattle.aadl.proofs.SectionTest.{tables, grammar-fine, section-good}
 use Rattle.aadl.proofs.Literal.{read-is-literal}
+use Rattle.aadl.proofs.SymbolLaws.{symbols-show-kinds}
+use Rattle.aadl.proofs.Unmarked.{derives-unmarked}
 
 -- WHAT A READING'S EVENTS SAY ------------------------------------------------------------------------------------------
 
@@ -85,93 +79,69 @@ module _ (limits : Limits) (xs : List ℕ) where
   unfolding events events-of
   derived-events f n d = ap events-of (derived-reading f n d)
 
--- KINDS AND SYMBOLS ----------------------------------------------------------------------------------------------------
-
--- a symbol shows the kind of its token
-shown-symbol : (k b : ℕ) → k < 128 → shown (symbol-of k b) ≡ k
-unfolding shown
-shown-symbol k b h = go (eqb k (# ERROR) && eqb b 48) refl
-  where
-    go : (t : Bool) → (eqb k (# ERROR) && eqb b 48) ≡ t → cond (eqb (cond t C-STYLE k) C-STYLE) (# ERROR) (cond t C-STYLE k) ≡ k
-    go true e = sym (eqb-true k (# ERROR) (and-l (eqb k (# ERROR)) (eqb b 48) e))
-    go false e = rw (ne-eqb k C-STYLE (λ q. omega arith))
-
-shown-placed : (text : List ℕ) (i : ℕ) (ts : List Token) → Each (λ (t : Token). t .kind < 128) ts →
-    map shown (map (λ (p : Placed). p .symbol) (placed text i ts)) ≡ without-trivia ts
-unfolding placed
-shown-placed text i [] h = refl
-shown-placed text i (t ∷ ts) h = go (is-trivia (t .kind)) (shown-placed text (i + t .len) ts (h .1))
-  where
-    rest : List Placed
-    rest = placed text (i + t .len) ts
-
-    go : (b : Bool) → map shown (map (λ (p : Placed). p .symbol) rest) ≡ without-trivia ts →
-        map shown (map (λ (p : Placed). p .symbol) (cond b rest (record { symbol = symbol-of (t .kind) (peek text i); place = i } ∷ rest)))
-        ≡ cond b (without-trivia ts) (t .kind ∷ without-trivia ts)
-    go true e = e
-    go false e = ap₂ (λ (k : ℕ) (ks : List ℕ). k ∷ ks) (shown-symbol (t .kind) (peek text i) (h .0)) e
-
-pub symbols-show-kinds : (text : List ℕ) → map shown (symbols text) ≡ kinds text
-unfolding symbols kinds
-symbols-show-kinds text = shown-placed text 0 (tokens text) (kinds-small text)
-
 -- THE THEOREM ----------------------------------------------------------------------------------------------------------
 
-pub record Demand-3 (limits : Limits) (text : List ℕ) : Type 0 where
-  -- the reading is clean exactly when 01's grammar derives the text
-  pub exactly : Clean limits (symbols text) ↔ ((t : Forest) × Derivation (symbols text) t)
+-- What demand 3 says of a text with the symbols xs and the kinds ks.
+pub record Demand-3 (limits : Limits) (xs ks : List ℕ) : Type 0 where
+  -- the reading is clean exactly when 01's grammar derives the kinds
+  pub exactly : Clean limits xs ↔ ((t : Forest) × Derivation ks t)
   -- the derivation is unique
-  pub unique : (t u : Forest) → Derivation (symbols text) t → Derivation (symbols text) u → t ≡ u
+  pub unique : (t u : Forest) → Derivation ks t → Derivation ks u → t ≡ u
   -- the tree that the events spell is it
-  pub spelled : (t : Forest) → Derivation (symbols text) t → spell (events limits (symbols text)) ≡ t
-  -- its leaves are the kinds of the non-trivia tokens
-  pub its-leaves : (t : Forest) → Derivation (symbols text) t → leaves t ≡ kinds text
+  pub spelled : (t : Forest) → Derivation ks t → spell (events limits xs) ≡ t
+  -- its leaves are the kinds
+  pub its-leaves : (t : Forest) → Derivation ks t → leaves t ≡ ks
 
--- The tree is that of a forest which the grammar as it is read derives.
-as-read : {xs : List ℕ} {t : Forest} (d : Derivation xs t) → Derives grammar section (d .0) xs []
-as-read {xs} d = read-is-literal (d .0) xs .1 (d .1)
+-- The forest of a derivation, which the grammar as it is read derives from the kinds, and from the symbols that show them.
+from-kinds : {ks : List ℕ} {t : Forest} (d : Derivation ks t) → Derives grammar section (d .0) ks []
+from-kinds {ks} d = read-is-literal (d .0) ks .1 (d .1)
 
--- Two derivations of the same symbols are the same tree, with no condition on depth.
-pub one-derivation : (xs : List ℕ) (t u : Forest) → Derivation xs t → Derivation xs u → t ≡ u
-one-derivation xs t u d e =
+from-symbols : {xs : List ℕ} {t : Forest} (d : Derivation (map shown xs) t) → Derives grammar section (d .0) xs []
+from-symbols {xs} d = read-is-literal (d .0) xs .1 (derives-unmarked (d .0) xs .1 (d .1))
+
+-- Two derivations of the same kinds are the same tree, with no condition on depth.
+pub one-derivation : (ks : List ℕ) (t u : Forest) → Derivation ks t → Derivation ks u → t ≡ u
+one-derivation ks t u d e =
     d .2
-    ∙ ap tree (unique grammar tables grammar-fine section section-good xs (d .0) (e .0) (as-read d) (as-read e))
+    ∙ ap tree (unique grammar tables grammar-fine section section-good ks (d .0) (e .0) (from-kinds d) (from-kinds e))
     ∙ sym (e .2)
 
-clean-exactly : (limits : Limits) (xs : List ℕ) → too-deep limits xs ≡ false → Clean limits xs ↔ ((t : Forest) × Derivation xs t)
+pub clean-exactly : (limits : Limits) (xs : List ℕ) → too-deep limits xs ≡ false → Clean limits xs ↔ ((t : Forest) × Derivation (map shown xs) t)
 unfolding events
 clean-exactly limits xs n = (to, from)
   where
-    to : Clean limits xs → (t : Forest) × Derivation xs t
+    to : Clean limits xs → (t : Forest) × Derivation (map shown xs) t
     to c =
         let d = clean-derived limits xs (reading limits xs) refl (c .no-error) (c .all-taken) in
-        (tree (d .0), (d .0, read-is-literal (d .0) xs .0 (d .1), refl))
+        (tree (d .0), (d .0, derives-unmarked (d .0) xs .0 (read-is-literal (d .0) xs .0 (d .1)), refl))
 
-    from : ((t : Forest) × Derivation xs t) → Clean limits xs
+    from : ((t : Forest) × Derivation (map shown xs) t) → Clean limits xs
     from u =
         let f = u .1 .0 in
-        let e = derived-events limits xs f n (as-read (u .1)) in
-        let l = derived-leaves grammar tables grammar-fine section section-good xs f (as-read (u .1)) in
+        let d : Derives grammar section f xs [] = from-symbols (u .1) in
+        let e = derived-events limits xs f n d in
+        let l = derived-leaves grammar tables grammar-fine section section-good xs f d in
         record {
-          no-error = ap (erring any-fault) e ∙ erring-events any-fault f 0 ∙ derived-clean grammar (as-read (u .1));
+          no-error = ap (erring any-fault) e ∙ erring-events any-fault f 0 ∙ derived-clean grammar d;
           all-taken = ap taken e ∙ taken-events f 0 ∙ ap length l ∙ length-map xs shown;
         }
 
-spelled-derivation : (limits : Limits) (xs : List ℕ) (t : Forest) → too-deep limits xs ≡ false → Derivation xs t → spell (events limits xs) ≡ t
+pub spelled-derivation : (limits : Limits) (xs : List ℕ) (t : Forest) → too-deep limits xs ≡ false → Derivation (map shown xs) t → spell (events limits xs) ≡ t
 spelled-derivation limits xs t n d =
-    ap spell (derived-events limits xs (d .0) n (as-read d))
-    ∙ spell-events (d .0) (derived-proper grammar tables grammar-fine section section-good xs (d .0) (as-read d))
+    ap spell (derived-events limits xs (d .0) n (from-symbols d))
+    ∙ spell-events (d .0) (derived-proper grammar tables grammar-fine section section-good xs (d .0) (from-symbols d))
     ∙ sym (d .2)
 
-derivation-leaves : (xs : List ℕ) (t : Forest) → Derivation xs t → leaves t ≡ map shown xs
+pub derivation-leaves : (xs : List ℕ) (t : Forest) → Derivation (map shown xs) t → leaves t ≡ map shown xs
 derivation-leaves xs t d =
-    ap leaves (d .2) ∙ leaves-tree (d .0) ∙ derived-leaves grammar tables grammar-fine section section-good xs (d .0) (as-read d)
+    ap leaves (d .2) ∙ leaves-tree (d .0) ∙ derived-leaves grammar tables grammar-fine section section-good xs (d .0) (from-symbols d)
 
-pub demand-3 : (limits : Limits) (text : List ℕ) → too-deep limits (symbols text) ≡ false → Demand-3 limits text
+pub demand-3 : (limits : Limits) (text : List ℕ) → too-deep limits (symbols text) ≡ false → Demand-3 limits (symbols text) (kinds text)
 demand-3 limits text n =
-    record {
+    subst (Demand-3 limits (symbols text)) (symbols-show-kinds text)
+    (record {
       exactly = clean-exactly limits (symbols text) n;
-      unique = one-derivation (symbols text);
+      unique = one-derivation (map shown (symbols text));
       spelled = λ t d. spelled-derivation limits (symbols text) t n d;
-      its-leaves = λ t d. derivation-leaves (symbols text) t d ∙ symbols-show-kinds text;
-    }
+      its-leaves = λ t d. derivation-leaves (symbols text) t d;
+    })

@@ -6,6 +6,8 @@ pub mod TokensCover
 pub mod KeywordKinds
 pub mod SectionTest
 pub mod Literal
+pub mod SymbolLaws
+pub mod Unmarked
 pub mod Demand3
 pub mod Computing
 pub mod Examples

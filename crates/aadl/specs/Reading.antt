@@ -37,9 +37,9 @@ pub record Clean (limits : Limits) (xs : List ℕ) : Type 0 where
   pub no-error : erring any-fault (events limits xs) ≡ false
   pub all-taken : taken (events limits xs) ≡ length xs
 
--- A derivation: a tree that 01's literal grammar derives from all the symbols.
-abbrev pub Derivation : List ℕ → (t : Forest) → Type 0
-Derivation xs t = (f : Forest) × Derives grammar literal-section f xs [] × (t ≡ tree f)
+-- A derivation of kinds: a tree that 01's literal grammar derives from all of them.
+abbrev pub Derivation : (kinds : List ℕ) → (t : Forest) → Type 0
+Derivation ks t = (f : Forest) × Derives grammar literal-section f ks [] × (t ≡ tree f)
 
 -- "Class × 16,777,216 + kind × 65,536 + last. Class 0 Start (last = forward parent, 0 for none), 1 Token (last = 1), 2 Finish,
 -- 3 Error (last = message). Kind is 0 for Finish and Error." Class, kind and last of an event (none is pushed for a nested fault):

@@ -10,6 +10,7 @@ pub mod Begins
 pub mod Complete
 pub mod Exactly
 pub mod OneMore
+pub mod Relabel
 pub mod EventLaws
 pub mod Spell
 pub mod Examples
