@@ -12,11 +12,12 @@ use lib.Dec.{eqb, ltb}
 use borrow.Author.Tests.{eqb-true, eqb-false}
 use Rattle.predictive.specs.Grammar.{has, stand}
 use Rattle.aadl.specs.declared.Token.{Token}
+use Rattle.aadl.specs.declared.Quoted.{Quoted}
 use Rattle.aadl.specs.Kinds.{INTEGER-LIT, REAL-LIT, IDENT, #_}
 use Rattle.aadl.specs.Words.{bytes, words, table, numbered, find, same, kind-of-word}
 use Rattle.aadl.specs.Bytes.{peek, run, run-end}
 use Rattle.aadl.specs.Bytes.{is-whitespace, is-digit, is-ident-start, is-ident-continue, is-exponent, is-sign, is-grouped, is-based, not-lf}
-use Rattle.aadl.specs.Tokens.{Quoted, quoted, string-of, Number, exponent-end, is-c-style, based, number-from, number-of}
+use Rattle.aadl.specs.Tokens.{quoted, string-of, Number, exponent-end, is-c-style, based, number-from, number-of}
 use Rattle.aadl.specs.Tokens.{word-of, marks, longest-mark, mark-of, token-of}
 use Rattle.predictive.proofs.Tests.{and-l, and-r, or-true-l, or-true-r}
 use Rattle.aadl.proofs.Bools.{cond-has}

@@ -7,6 +7,7 @@ use lib.ListN.{length, getD, take, drop}
 use lib.Dec.{leb, ltb, eqb}
 use Rattle.predictive.specs.Grammar.{has, stand}
 use Rattle.aadl.specs.declared.Token.{Token}
+use Rattle.aadl.specs.declared.Quoted.{Quoted}
 use Rattle.aadl.specs.Kinds.{ERROR, WHITESPACE, COMMENT, INTEGER-LIT, REAL-LIT, STRING-LIT, #_}
 use Rattle.aadl.specs.Words.{bytes, kind-of-word}
 use Rattle.aadl.specs.Utf8.{sequence}
@@ -17,15 +18,10 @@ token k n = record { kind = k; len = n }
 
 -- STRINGS --------------------------------------------------------------------------------------------------------------
 
--- "String: `"` to the next `"` not doubled; an unclosed one runs to the end."
-pub record Quoted : Type 0 where
-  pub len : ℕ
-  pub closed : Bool
-
 abbrev pub more-quoted : Quoted → Quoted
 more-quoted q = record { len = suc (q .len); closed = q .closed }
 
--- What of the bytes belongs to a string; at-quote: the byte before them is a quote that closes it unless another one follows.
+-- "String: `"` to the next `"` not doubled; an unclosed one runs to the end." What of the bytes belongs to a string; at-quote: the byte before them is a quote that closes it unless another one follows.
 unfoldable pub quoted : (at-quote : Bool) → List ℕ → Quoted
 quoted q [] = record { len = 0; closed = q }
 quoted q (b ∷ bs) =

@@ -1,10 +1,16 @@
-// What document 01 says, as definitions: specs/ holds them, proofs/ holds what follows from them. The two structs here are the
-// answers that the definitions give and that the calls of later crates return.
+// What document 01 says, as definitions: specs/ holds them, proofs/ holds what follows from them. The structs here are what the
+// definitions give and the functions of later crates return.
 
 // A token at the front of some bytes: its kind and its length in bytes.
 pub struct Token {
     pub kind: u32,
     pub len: usize,
+}
+
+// A string at the front of some bytes: its length in bytes with both quotes, and whether it was closed.
+pub struct Quoted {
+    pub len: usize,
+    pub closed: bool,
 }
 
 // What a call answers: the refusal's number and place (0 and 0 for none), the tokens, the non-trivia tokens taken, the events.
