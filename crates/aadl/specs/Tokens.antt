@@ -21,7 +21,8 @@ token k n = record { kind = k; len = n }
 abbrev pub more-quoted : Quoted → Quoted
 more-quoted q = record { len = suc (q .len); closed = q .closed }
 
--- "String: `"` to the next `"` not doubled; an unclosed one runs to the end." What of the bytes belongs to a string; at-quote: the byte before them is a quote that closes it unless another one follows.
+-- "String: `"` to the next `"` not doubled; an unclosed one runs to the end." What of the bytes belongs to a string; at-quote: the byte
+-- before them is a quote that closes it unless another one follows.
 unfoldable pub quoted : (at-quote : Bool) → List ℕ → Quoted
 quoted q [] = record { len = 0; closed = q }
 quoted q (b ∷ bs) =
