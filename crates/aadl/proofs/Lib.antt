@@ -9,5 +9,6 @@ pub mod Literal
 pub mod SymbolLaws
 pub mod Unmarked
 pub mod Demand3
+pub mod AnswerLaws
 pub mod Computing
 pub mod Examples

@@ -1,0 +1,4 @@
+pub mod Comparing
+pub mod Columns
+pub mod OneCandidate
+pub mod KindSets

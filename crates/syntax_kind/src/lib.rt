@@ -1,0 +1,469 @@
+// Kinds of tokens and nodes by name, as `SyntaxKind` has them, which kinds are of a class, and which kind a word has.
+mod tables; // tables.rt: the table of words by columns
+
+pub use tables::KINDS;
+pub use tables::LENGTHS;
+pub use tables::LETTERS;
+pub use tables::SLOTS;
+pub use tables::STARTS;
+ghost use Prim.Native.Nat.{_≤_, _<_};
+ghost use mathlib.Core.Path.{_≡_};
+ghost use lib.ListN.{length};
+ghost use Rattle.predictive.specs.Grammar.{has};
+ghost use Rattle.aadl.specs.Words.{lower, same, kind-of-word};
+ghost use Rattle.aadl.specs.Symbols.{is-trivia};
+ghost use Rattle.aadl.specs.Section.{keywords};
+ghost use Rattle.syntax_kind.specs.Tables.{row, word-letters, word-starts, word-lengths, hash-of, Lent, categories};
+
+// Tombstone, end, error
+
+pub const TOMBSTONE: u32 = 0;
+
+pub const EOF: u32 = 1;
+
+pub const ERROR: u32 = 2;
+
+// Trivia
+
+pub const WHITESPACE: u32 = 3;
+
+pub const COMMENT: u32 = 4;
+
+// Punctuation
+
+pub const SEMICOLON: u32 = 5;
+
+pub const COLON: u32 = 6;
+
+pub const COMMA: u32 = 7;
+
+pub const DOT: u32 = 8;
+
+pub const DOT_DOT: u32 = 9;
+
+pub const L_PAREN: u32 = 10;
+
+pub const R_PAREN: u32 = 11;
+
+pub const L_CURLY: u32 = 12;
+
+pub const R_CURLY: u32 = 13;
+
+pub const L_BRACKET: u32 = 14;
+
+pub const R_BRACKET: u32 = 15;
+
+pub const ARROW: u32 = 16;
+
+pub const BIDI_ARROW: u32 = 17;
+
+pub const FAT_ARROW: u32 = 18;
+
+pub const PLUS_ARROW: u32 = 19;
+
+pub const PLUS: u32 = 20;
+
+pub const MINUS: u32 = 21;
+
+pub const STAR: u32 = 22;
+
+pub const SLASH: u32 = 23;
+
+pub const COLON_COLON: u32 = 24;
+
+pub const ANNEX_OPEN: u32 = 25;
+
+pub const ANNEX_CLOSE: u32 = 26;
+
+pub const HASH: u32 = 27;
+
+pub const DASH_BRACKET: u32 = 28;
+
+pub const BRACKET_ARROW: u32 = 29;
+
+// Literals
+
+pub const INTEGER_LIT: u32 = 30;
+
+pub const REAL_LIT: u32 = 31;
+
+pub const STRING_LIT: u32 = 32;
+
+// Identifiers
+
+pub const IDENT: u32 = 33;
+
+// Keywords
+
+pub const PACKAGE_KW: u32 = 34;
+
+pub const PUBLIC_KW: u32 = 35;
+
+pub const PRIVATE_KW: u32 = 36;
+
+pub const WITH_KW: u32 = 37;
+
+pub const END_KW: u32 = 38;
+
+pub const NONE_KW: u32 = 39;
+
+pub const RENAMES_KW: u32 = 40;
+
+// Component categories
+
+pub const SYSTEM_KW: u32 = 41;
+
+pub const PROCESS_KW: u32 = 42;
+
+pub const THREAD_KW: u32 = 43;
+
+pub const GROUP_KW: u32 = 44;
+
+pub const PROCESSOR_KW: u32 = 45;
+
+pub const VIRTUAL_KW: u32 = 46;
+
+pub const BUS_KW: u32 = 47;
+
+pub const MEMORY_KW: u32 = 48;
+
+pub const DEVICE_KW: u32 = 49;
+
+pub const SUBPROGRAM_KW: u32 = 50;
+
+pub const DATA_KW: u32 = 51;
+
+pub const ABSTRACT_KW: u32 = 52;
+
+// Structure keywords
+
+pub const IMPLEMENTATION_KW: u32 = 53;
+
+pub const EXTENDS_KW: u32 = 54;
+
+pub const PROTOTYPES_KW: u32 = 55;
+
+pub const FEATURES_KW: u32 = 56;
+
+pub const FLOWS_KW: u32 = 57;
+
+pub const CONNECTIONS_KW: u32 = 58;
+
+pub const MODES_KW: u32 = 59;
+
+pub const PROPERTIES_KW: u32 = 60;
+
+pub const SUBCOMPONENTS_KW: u32 = 61;
+
+pub const ANNEX_KW: u32 = 62;
+
+pub const CALLS_KW: u32 = 63;
+
+pub const INTERNAL_KW: u32 = 64;
+
+// Feature keywords
+
+pub const IN_KW: u32 = 65;
+
+pub const OUT_KW: u32 = 66;
+
+pub const PORT_KW: u32 = 67;
+
+pub const EVENT_KW: u32 = 68;
+
+pub const ACCESS_KW: u32 = 69;
+
+pub const PROVIDES_KW: u32 = 70;
+
+pub const REQUIRES_KW: u32 = 71;
+
+pub const FEATURE_KW: u32 = 72;
+
+pub const PARAMETER_KW: u32 = 73;
+
+pub const INVERSE_KW: u32 = 74;
+
+pub const OF_KW: u32 = 75;
+
+// Flow keywords
+
+pub const FLOW_KW: u32 = 76;
+
+pub const SOURCE_KW: u32 = 77;
+
+pub const SINK_KW: u32 = 78;
+
+pub const PATH_KW: u32 = 79;
+
+// Mode keywords
+
+pub const INITIAL_KW: u32 = 80;
+
+pub const MODE_KW: u32 = 81;
+
+pub const TRANSITION_KW: u32 = 82;
+
+// Property keywords
+
+pub const CONSTANT_KW: u32 = 83;
+
+pub const APPLIES_KW: u32 = 84;
+
+pub const TO_KW: u32 = 85;
+
+pub const INHERIT_KW: u32 = 86;
+
+pub const DELTA_KW: u32 = 87;
+
+pub const IS_KW: u32 = 88;
+
+pub const ALL_KW: u32 = 89;
+
+pub const BINDING_KW: u32 = 90;
+
+pub const CLASSIFIER_KW: u32 = 91;
+
+pub const REFERENCE_KW: u32 = 92;
+
+pub const RECORD_KW: u32 = 93;
+
+pub const COMPUTE_KW: u32 = 94;
+
+pub const TYPE_KW: u32 = 95;
+
+pub const SET_KW: u32 = 96;
+
+pub const RANGE_KW: u32 = 97;
+
+pub const UNITS_KW: u32 = 98;
+
+pub const ENUMERATION_KW: u32 = 99;
+
+pub const LIST_KW: u32 = 100;
+
+pub const AADLBOOLEAN_KW: u32 = 101;
+
+pub const AADLINTEGER_KW: u32 = 102;
+
+pub const AADLREAL_KW: u32 = 103;
+
+pub const AADLSTRING_KW: u32 = 104;
+
+pub const PROPERTY_KW: u32 = 105;
+
+// Boolean keywords
+
+pub const TRUE_KW: u32 = 106;
+
+pub const FALSE_KW: u32 = 107;
+
+// Logical keywords
+
+pub const NOT_KW: u32 = 108;
+
+pub const AND_KW: u32 = 109;
+
+pub const OR_KW: u32 = 110;
+
+// Other keywords
+
+pub const REFINED_KW: u32 = 111;
+
+pub const SELF_KW: u32 = 112;
+
+// AADL v2.3 (AS5506D) keywords
+
+pub const INTERFACE_KW: u32 = 113;
+
+pub const FILE_KW: u32 = 114;
+
+// Nodes: components
+
+pub const COMPONENT_CATEGORY: u32 = 127;
+
+// Nodes: prototypes
+
+pub const PROTOTYPE_BINDING: u32 = 133;
+
+pub const PROTOTYPE_BINDING_LIST: u32 = 134;
+
+// Nodes: features
+
+pub const DIRECTION: u32 = 147;
+
+// Nodes: properties
+
+pub const PROPERTY_SECTION: u32 = 169;
+
+pub const PROPERTY_ASSOCIATION: u32 = 170;
+
+pub const PROPERTY_REF: u32 = 171;
+
+pub const APPLIES_TO: u32 = 172;
+
+pub const CONTAINMENT_PATH: u32 = 173;
+
+pub const IN_BINDING: u32 = 174;
+
+pub const MODAL_PROPERTY_VALUE: u32 = 175;
+
+// Nodes: property expressions
+
+pub const PROPERTY_EXPRESSION: u32 = 181;
+
+pub const BOOLEAN_VALUE: u32 = 182;
+
+pub const INTEGER_VALUE: u32 = 183;
+
+pub const REAL_VALUE: u32 = 184;
+
+pub const STRING_VALUE: u32 = 185;
+
+pub const RECORD_VALUE: u32 = 186;
+
+pub const RECORD_FIELD: u32 = 187;
+
+pub const LIST_VALUE: u32 = 188;
+
+pub const RANGE_VALUE: u32 = 189;
+
+pub const DELTA_VALUE: u32 = 190;
+
+pub const BINARY_EXPR: u32 = 192;
+
+pub const REFERENCE_VALUE: u32 = 193;
+
+pub const CLASSIFIER_VALUE: u32 = 194;
+
+pub const COMPUTED_VALUE: u32 = 195;
+
+// Nodes: classifier references
+
+pub const CLASSIFIER_REF: u32 = 197;
+
+pub fn is_trivia(kind: u32) -> bool
+    ensures { λ r. ⌜ r ≡ is-trivia kind ⌝ }
+{
+    (kind == WHITESPACE) | (kind == COMMENT)
+}
+
+pub fn is_keyword(kind: u32) -> bool
+    ensures { λ r. ⌜ r ≡ has keywords kind ⌝ }
+{
+    (PACKAGE_KW <= kind) & (kind <= FILE_KW)
+}
+
+// Whether a component category can begin with a keyword.
+pub fn is_component_category_kw(kind: u32) -> bool
+    ensures { λ r. ⌜ r ≡ has categories kind ⌝ }
+{
+    (kind == SYSTEM_KW)
+        | (kind == PROCESS_KW)
+        | (kind == THREAD_KW)
+        | (kind == PROCESSOR_KW)
+        | (kind == VIRTUAL_KW)
+        | (kind == BUS_KW)
+        | (kind == MEMORY_KW)
+        | (kind == DEVICE_KW)
+        | (kind == SUBPROGRAM_KW)
+        | (kind == DATA_KW)
+        | (kind == ABSTRACT_KW)
+}
+
+// The kind of a word, in any mix of ASCII case: a keyword's, or IDENT.
+pub fn from_keyword(word: &[u8]) -> u32
+    ensures { λ r. ⌜ r ≡ kind-of-word (now (word .entry)) ⌝ }
+{
+    let letters = LETTERS;
+    let starts = STARTS;
+    let lengths = LENGTHS;
+    let kinds = KINDS;
+    let slots = SLOTS;
+    keyword(word, &letters, &starts, &lengths, &kinds, &slots)
+}
+
+// The same over lent tables: reading a `const` array builds it anew, so who looks up many words copies the tables once.
+pub fn keyword(
+    word: &[u8],
+    letters: &[u8; 510],
+    starts: &[u16; 82],
+    lengths: &[u8; 82],
+    kinds: &[u8; 82],
+    slots: &[u8; 256],
+) -> u32
+    requires { ⌜ Lent (now letters) (now starts) (now lengths) (now kinds) (now slots) ⌝ }
+    ensures { λ r. ⌜ r ≡ kind-of-word (now (word .entry)) ⌝ }
+{
+    let n = word.len();
+    // every word of the table has 1 to 14 letters
+    if (n < 1) | (14 < n) {
+        return IDENT;
+    }
+    let i = wide(slots[hash(word)]);
+    if is_word_in(word, i, letters, starts, lengths) {
+        return wide32(kinds[i]);
+    }
+    IDENT
+}
+
+// A number below 256 from a word's length and its first, last and middle letters without their case: no two words of the
+// table have the same, so one comparison decides.
+fn hash(word: &[u8]) -> usize
+    requires { ⌜ (1 ≤ length (now word)) × (length (now word) ≤ 14) ⌝ }
+    ensures { λ r. ⌜ r ≡ hash-of (now (word .entry)) ⌝ }
+{
+    let n = word.len();
+    (n * 8 + wide(word[0]) % 32 * 23 + wide(word[n - 1]) % 32 * 5 + wide(word[n / 2]) % 32 * 25)
+        % 256
+}
+
+// Whether a word is that of a row, in any mix of ASCII case.
+fn is_word_in(
+    word: &[u8],
+    i: usize,
+    letters: &[u8; 510],
+    starts: &[u16; 82],
+    lengths: &[u8; 82],
+) -> bool
+    requires { ⌜ (i < 82) × (now letters ≡ word-letters) × (now starts ≡ word-starts) × (now lengths ≡ word-lengths) ⌝ }
+    ensures { λ r. ⌜ r ≡ same (row i .word) (now (word .entry)) ⌝ }
+{
+    let n = wide(lengths[i]);
+    if word.len() != n {
+        return false;
+    }
+    let from = wide16(starts[i]);
+    let mut j = 0;
+    while j < n {
+        if letters[from + j] != to_lower(word[j]) {
+            return false;
+        }
+        j += 1;
+    }
+    true
+}
+
+// An ASCII capital as its small letter, any other byte as it is.
+fn to_lower(b: u8) -> u8
+    ensures { λ r. ⌜ r ≡ lower b ⌝ }
+{
+    if (65 <= b) & (b <= 90) { b + 32 } else { b }
+}
+
+fn wide(x: u8) -> usize
+    ensures { λ r. ⌜ r ≡ x ⌝ }
+{
+    x as usize
+}
+
+fn wide16(x: u16) -> usize
+    ensures { λ r. ⌜ r ≡ x ⌝ }
+{
+    x as usize
+}
+
+fn wide32(x: u8) -> u32
+    ensures { λ r. ⌜ r ≡ x ⌝ }
+{
+    x as u32
+}
