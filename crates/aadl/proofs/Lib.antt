@@ -1,5 +1,6 @@
 pub mod Bools
 pub mod Lists
+pub mod RunLaws
 pub mod Utf8Laws
 pub mod TokenBounds
 pub mod TokensCover

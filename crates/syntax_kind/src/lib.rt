@@ -450,7 +450,7 @@ fn to_lower(b: u8) -> u8
     if (65 <= b) & (b <= 90) { b + 32 } else { b }
 }
 
-fn wide(x: u8) -> usize
+pub fn wide(x: u8) -> usize
     ensures { λ r. ⌜ r ≡ x ⌝ }
 {
     x as usize
@@ -462,7 +462,7 @@ fn wide16(x: u16) -> usize
     x as usize
 }
 
-fn wide32(x: u8) -> u32
+pub fn wide32(x: u8) -> u32
     ensures { λ r. ⌜ r ≡ x ⌝ }
 {
     x as u32

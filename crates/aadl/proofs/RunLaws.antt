@@ -1,0 +1,40 @@
+-- Laws of runs: a run goes on past a byte of its class, stops at another, and ends with the text; a run from a place on is one of the
+-- bytes from there on. Each is what the definition says of the bytes from the place on. Assumes nothing.
+use Prim.Native.Nat.{ℕ, suc, _+_, _-_, _≤_, _<_}
+use native.Mathlib.Numerals.{add-one}
+use native.Mathlib.Omega.{arith}
+use mathlib.Core.Path.{_≡_, refl, ap, _∙_}
+use mathlib.Core.Bool.{Bool, true, false}
+use mathlib.Core.List.{List}
+use lib.ListN.{length, drop, drop-of-length-le}
+use lib.Seq.{drop-cons}
+use Rattle.aadl.specs.Bytes.{peek, run, run-end}
+
+module _ (p : ℕ → Bool) (bs : List ℕ) (i : ℕ) where
+  pub run-more : i < length bs → p (peek bs i) ≡ true → run-end p bs i ≡ run-end p bs (i + 1)
+  unfolding run run-end
+  run-more h e = rw (drop-cons bs i 0 h, e, add-one) (omega arith)
+
+  pub run-stop : i < length bs → p (peek bs i) ≡ false → run-end p bs i ≡ i
+  unfolding run run-end
+  run-stop h e = rw (drop-cons bs i 0 h, e) (omega arith)
+
+  pub run-over : length bs ≤ i → run-end p bs i ≡ i
+  unfolding run run-end
+  run-over h = rw (drop-of-length-le bs h) (omega arith)
+
+  pub run-end-from : i ≤ run-end p bs i
+  unfolding run-end
+  run-end-from = omega arith
+
+  pub run-rest : run-end p bs i - i ≡ run p (drop i bs)
+  unfolding run-end
+  run-rest = omega arith
+
+-- the same step, k bytes after i
+pub run-more-after : (p : ℕ → Bool) (bs : List ℕ) (i k : ℕ) → i + k < length bs → p (peek bs (i + k)) ≡ true → run-end p bs (i + k) ≡ run-end p bs (i + suc k)
+run-more-after p bs i k h e = run-more p bs (i + k) h e ∙ ap (run-end p bs) (omega arith)
+
+pub run-from-start : (p : ℕ → Bool) (bs : List ℕ) → run-end p bs 0 ≡ run p bs
+unfolding run-end
+run-from-start p bs = omega arith

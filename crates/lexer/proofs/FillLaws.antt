@@ -1,0 +1,146 @@
+-- Filling words with a text's tokens, one token at a turn: what is written and what remains to be written make up the whole. So at the
+-- end, or where no word is left, the words and the place are as the definition says. Assumes nothing.
+use Prim.Native.Nat.{ℕ, zero, suc, _+_, _-_, _*_, _≤_, _<_, min, zero-le}
+use native.Mathlib.Nat.{zero-add, sub-zero, le-refl}
+use native.Mathlib.Numerals.{add-one}
+use native.Mathlib.Omega.{arith}
+use mathlib.Core.Path.{_≡_, refl, sym, ap, _∙_}
+use mathlib.Core.Bool.{Bool, true, false}
+use mathlib.Core.List.{List, [], _∷_, _++_, map, append-assoc, append-nil}
+use lib.ListN.{length, drop, take, set, length-drop, length-set, length-map, drop-of-length-le, take-append-drop}
+use lib.Seq.{drop-cons, take-suc-set, drop-set-lt, drop-drop, take-all, take-nil}
+use lib.Dec.{ltb}
+use borrow.Author.Tests.{lt-ltb, le-ltb, ltb-true, ltb-false}
+use Rattle.aadl.specs.declared.Token.{Token}
+use Rattle.aadl.specs.Tokens.{lengths, token-of, tokens, token-word}
+use Rattle.aadl.specs.Answers.{token-words}
+use Rattle.aadl.proofs.TokenBounds.{token-within, token-kind-small}
+use Rattle.aadl.proofs.TokensCover.{tokens-step, tokens-none}
+use Rattle.lexer.specs.Filling.{write, filled-of}
+use Rattle.lexer.specs.declared.Filled.{Filled}
+
+write-nil : (ws : List ℕ) → write ws [] ≡ []
+write-nil [] = refl
+write-nil (w ∷ ws) = refl
+
+-- where all words fit, the old contents come after them
+pub write-fits : (ws old : List ℕ) → length ws ≤ length old → write ws old ≡ ws ++ drop (length ws) old
+write-fits [] old h = refl
+write-fits (w ∷ ws) [] h = absurd (omega arith)
+write-fits (w ∷ ws) (o ∷ old) h = ap (λ (l : List ℕ). w ∷ l) (write-fits ws old (omega arith))
+
+-- Where filling stands: `at` bytes read, n words written.
+pub record Filling (s old words : List ℕ) (at n : ℕ) : Type 0 where
+  pub fits : at ≤ length s
+  pub room : n ≤ length old
+  pub same : length words ≡ length old
+  pub written : take n words ++ write (token-words (drop at s)) (drop n words) ≡ write (token-words s) old
+  pub counts : n + length (tokens (drop at s)) ≡ length (tokens s)
+  pub place : at + lengths (take (length old - n) (tokens (drop at s))) ≡ lengths (take (length old) (tokens s))
+
+pub filling-starts : (s old : List ℕ) → Filling s old old 0 0
+filling-starts s old =
+    record {
+      fits = zero-le;
+      room = zero-le;
+      same = refl;
+      written = refl;
+      counts = omega arith;
+      place = rw (sub-zero (length old)) (zero-add _);
+    }
+
+module _ {s old words : List ℕ} {at n : ℕ} (f : Filling s old words at n) where
+  -- the next token, and the tokens after it
+  more : (t : Token) → at < length s → t ≡ token-of (drop at s) → tokens (drop at s) ≡ t ∷ tokens (drop (at + t .len) s)
+  more t h e = tokens-step (drop at s) (omega (arith, length-drop at s)) ∙ (λ i. e′ i ∷ tokens (d i))
+    where
+      e′ : token-of (drop at s) ≡ t
+      e′ = sym e
+
+      d : drop (token-of (drop at s) .len) (drop at s) ≡ drop (at + t .len) s
+      d = drop-drop (token-of (drop at s) .len) at s ∙ ap (λ (u : Token). drop (at + u .len) s) (sym e)
+
+  pub filling-more : (t : Token) → at < length s → n < length words → t ≡ token-of (drop at s) → Filling s old (set words n (token-word t)) (at + t .len) (n + 1)
+  filling-more t h l e =
+      let m = more t h e in
+      let w = token-within (drop at s) (omega (arith, length-drop at s)) in
+      let q : length old - n ≡ suc (length old - (n + 1)) = omega arith in
+      record {
+        fits = omega (arith, ap (λ (u : Token). u .len) e, length-drop at s);
+        room = omega arith;
+        same = length-set words n (token-word t) ∙ f .same;
+        written =
+            rw (add-one, take-suc-set words n (token-word t) l, drop-set-lt (suc n) words n (token-word t) (le-refl (suc n)), append-assoc)
+            (rw (m, drop-cons words n 0 l) at (f .written));
+        counts = omega (arith, ap length m);
+        place = omega (arith, rw (m, q) at (f .place));
+      }
+
+  pub filling-full : at < length s → n ≡ length words →
+      (record { full = true; at = at; count = n } ≡ filled-of s (length old)) × (words ≡ write (token-words s) old)
+  unfolding filled-of
+  filling-full h l =
+      let ts = tokens s in
+      let m = tokens-step (drop at s) (omega (arith, length-drop at s)) in
+      let g : length old < length ts = omega (arith, ap length m) in
+      let z : length old - n ≡ 0 = omega arith in
+      let p : at ≡ lengths (take (length old) ts) = omega (arith, rw z at (f .place)) in
+      let c : n ≡ min (length old) (length ts) = omega arith in
+      let b : true ≡ ltb (length old) (length ts) = sym (lt-ltb (length old) (length ts) g) in
+      let v : length words ≤ n = omega arith in (
+        (λ i. record { full = b i; at = p i; count = c i }),
+        sym (append-nil words)
+            ∙ (rw (take-all n words v, drop-of-length-le words v, write-nil (token-words (drop at s))) at (f .written)),
+      )
+
+  pub filling-ends : length s ≤ at → (record { full = false; at = at; count = n } ≡ filled-of s (length old)) × (words ≡ write (token-words s) old)
+  unfolding filled-of
+  filling-ends h =
+      let ts = tokens s in
+      let z = tokens-none (drop at s) (omega (arith, length-drop at s)) in
+      let g : length ts ≡ n = omega (arith, ap length z) in
+      let p : at ≡ lengths (take (length old) ts) = omega (arith, rw (z, take-nil (length old - n)) at (f .place)) in
+      let c : n ≡ min (length old) (length ts) = omega arith in
+      let b : false ≡ ltb (length old) (length ts) = sym (le-ltb (length old) (length ts) (omega arith)) in (
+        (λ i. record { full = b i; at = p i; count = c i }),
+        sym (take-append-drop n words) ∙ (rw z at (f .written)),
+      )
+
+-- A token's kind and length fit their places in a word.
+pub record Fitting (s : List ℕ) (at : ℕ) (t : Token) : Type 0 where
+  pub some : 1 ≤ t .len
+  pub inside : at + t .len ≤ length s
+  pub small : t .kind < 128
+
+pub token-fits : (s : List ℕ) (at : ℕ) (t : Token) → at < length s → t ≡ token-of (drop at s) → Fitting s at t
+token-fits s at t h e =
+    let w = token-within (drop at s) (omega (arith, length-drop at s)) in
+    let q = ap (λ (u : Token). u .len) e in
+    record {
+      some = omega arith;
+      inside = omega (arith, length-drop at s);
+      small = omega (arith, token-kind-small (drop at s), ap (λ (u : Token). u .kind) e);
+    }
+
+-- WHAT A FILLING ANSWERS -----------------------------------------------------------------------------------------------
+
+module _ (text : List ℕ) (m : ℕ) (f : Filled) (e : f ≡ filled-of text m) where
+  pub filled-over : f .full ≡ true → m < length (tokens text)
+  unfolding filled-of
+  filled-over q = ltb-true m (length (tokens text)) (sym (ap (λ (r : Filled). r .full) e) ∙ q)
+
+  pub filled-all : f .full ≡ false → length (tokens text) ≤ m
+  unfolding filled-of
+  filled-all q = ltb-false m (length (tokens text)) (sym (ap (λ (r : Filled). r .full) e) ∙ q)
+
+  pub filled-place : f .at ≡ lengths (take m (tokens text))
+  unfolding filled-of
+  filled-place = ap (λ (r : Filled). r .at) e
+
+  pub filled-count : f .full ≡ false → f .count ≡ length (tokens text)
+  unfolding filled-of
+  filled-count q = ap (λ (r : Filled). r .count) e ∙ omega (arith, filled-all q)
+
+-- Where all tokens have a word, the words are theirs, and then the old contents.
+pub all-written : (text old : List ℕ) → length (tokens text) ≤ length old → write (token-words text) old ≡ token-words text ++ drop (length (token-words text)) old
+all-written text old h = write-fits (token-words text) old (omega (arith, length-map (tokens text) token-word))

@@ -1,0 +1,5 @@
+pub mod TextLaws
+pub mod ClearLaws
+pub mod FillLaws
+pub mod SequenceLaws
+pub mod FirstByte

@@ -1,0 +1,103 @@
+-- The answer is that of the first check whose case holds (aadl's AnswerLaws); a refusal clears the words, and else they are filled.
+use Prim.Native.Nat.{ℕ}
+use mathlib.Core.Path.{_≡_, refl, sym, ap, _∙_}
+use mathlib.Core.List.{List, []}
+use lib.ListN.{length, replicate}
+use Rattle.aadl.specs.Limits.{base}
+use Rattle.aadl.specs.Tokens.{tokens}
+use Rattle.aadl.specs.Answers.{refused, answered, token-words}
+use Rattle.aadl.proofs.AnswerLaws.{too-long, not-utf8, no-word-left, text-passes, tokens-answer-is, left-refused, left-answered}
+use Rattle.lexer.proofs.FillLaws.{filled-over, filled-all, filled-place, filled-count, all-written}
+use borrow.Author.Needs.{needs}
+use Rattle.lexer.proofs.tokenize.Statement.{statement}
+use Rattle.lexer.proofs.tokenize.Tie as tie
+use Rattle.lexer.proofs.tokenize.Reads as reads
+use Rattle.lexer.proofs.tokenize.Lts as lts
+use Rattle.lexer.proofs.clear.Reads as clear-reads
+use Rattle.lexer.proofs.fill.Reads as fill-reads
+use Rattle.lexer.proofs.valid_up_to.Reads as valid-up-to-reads
+
+clear-requires : tie.Need-clear-requires
+clear-requires c κs = search needs
+
+same-length : tie.Need-same-length
+same-length c = search needs
+
+returns : tie.Need-returns
+returns c =
+    let xs = (c .before .before .before .before .before .before .before .args) .src .now in
+    let old = (c .before .before .before .before .before .before .before .args) .tokens .now in
+    let a = too-long base xs (length old) [] (answered (length (tokens xs)) 0 0) ((c .before .before .before .before .if1) .taken) in
+    (sym (tokens-answer-is base xs (length old) ∙ a), (c .before .before .clear) .ensures ∙ sym (left-refused 0 32768 (token-words xs) old))
+
+valid-up-to-requires : tie.Need-valid-up-to-requires
+valid-up-to-requires c κs = search needs
+
+clear-requires-2 : tie.Need-clear-requires-2
+clear-requires-2 c κs = search needs
+
+same-length-2 : tie.Need-same-length-2
+same-length-2 c = search needs
+
+returns-2 : tie.Need-returns-2
+returns-2 c =
+    let xs = (c .before .before .before .before .before .before .before .before .before .args) .src .now in
+    let old = (c .before .before .before .before .before .before .before .before .before .args) .tokens .now in
+    let v = (c .before .before .before .before .before .valid-up-to) .ensures in
+    let a = not-utf8 base xs (length old) [] (answered (length (tokens xs)) 0 0) ((c .before .before .before .before .before .before .if1) .left) (λ q. (c .before .before .before .before .if2) .taken (v ∙ q)) in
+    (ap (refused 2) v ∙ sym (tokens-answer-is base xs (length old) ∙ a), (c .before .before .clear2) .ensures ∙ sym (left-refused 1 ((c .before .before .before .before .before .valid-up-to) .result) (token-words xs) old))
+
+fill-requires : tie.Need-fill-requires
+fill-requires c κs = search needs
+
+clear-requires-3 : tie.Need-clear-requires-3
+clear-requires-3 c κs = search needs
+
+same-length-3 : tie.Need-same-length-3
+same-length-3 c = search needs
+
+returns-3 : tie.Need-returns-3
+returns-3 c =
+    let xs = (c .before .before .before .before .before .before .before .before .before .before .before .before .before .before .args) .src .now in
+    let old = (c .before .before .before .before .before .before .before .before .before .before .before .before .before .before .args) .tokens .now in
+    let utf8 = sym ((c .before .before .before .before .before .before .before .before .before .before .valid-up-to) .ensures) ∙ (c .before .before .before .before .before .before .before .before .before .if2) .left in
+    let q = (c .before .before .before .before .before .before .before .fill) .ensures .0 in
+    let f = (c .before .before .before .before .before .before .before .fill) .result in
+    let a = no-word-left base xs (length old) [] (answered (length (tokens xs)) 0 0) ((c .before .before .before .before .before .before .before .before .before .before .before .if1) .left) utf8 (filled-over xs (length old) f q ((c .before .before .before .before .if3) .taken)) in (
+      ap (refused 3) (filled-place xs (length old) f q) ∙ sym (tokens-answer-is base xs (length old) ∙ a),
+      (c .before .before .clear3) .ensures ∙ ap (λ (k : ℕ). replicate k 0) ((c .before .before .before .before .before .before .before .fill) .kept .1 .0) ∙ sym (left-refused 2 (f .at) (token-words xs) old),
+    )
+
+same-length-4 : tie.Need-same-length-4
+same-length-4 c = search needs
+
+returns-4 : tie.Need-returns-4
+returns-4 c =
+    let xs = (c .before .before .before .before .before .before .before .before .before .before .args) .src .now in
+    let old = (c .before .before .before .before .before .before .before .before .before .before .args) .tokens .now in
+    let utf8 = sym ((c .before .before .before .before .before .before .valid-up-to) .ensures) ∙ (c .before .before .before .before .before .if2) .left in
+    let q = (c .before .before .before .fill) .ensures .0 in
+    let f = (c .before .before .before .fill) .result in
+    let all = filled-all xs (length old) f q ((c .if3) .left) in
+    let a = text-passes base xs (length old) [] (answered (length (tokens xs)) 0 0) ((c .before .before .before .before .before .before .before .if1) .left) utf8 all in (
+      ap (λ (n : ℕ). answered n 0 0) (filled-count xs (length old) f q ((c .if3) .left)) ∙ sym (tokens-answer-is base xs (length old) ∙ a),
+      (c .before .before .before .fill) .ensures .1 ∙ all-written xs old all ∙ sym (left-answered (f .count) 0 0 (token-words xs) old),
+    )
+
+pub tokenize-spec : {M : Type 1} → statement M
+tokenize-spec =
+    tie.close
+    (tie.spec
+    clear-requires
+    same-length
+    returns
+    valid-up-to-requires
+    clear-requires-2
+    same-length-2
+    returns-2
+    fill-requires
+    clear-requires-3
+    same-length-3
+    returns-3
+    same-length-4
+    returns-4)

@@ -1,0 +1,105 @@
+use Prim.Native.Nat.{ℕ, _≤_, _<_, _-_, _+_}
+use mathlib.Core.Path.{_≡_, refl, sym, ap, _∙_}
+use native.Mathlib.Omega.{arith}
+use native.Mathlib.Nat.{zero-add}
+use Rattle.aadl.specs.Utf8.{ill-formed, sequence}
+use Rattle.lexer.proofs.SequenceLaws.{ill-here, sequence-in, ill-next, rest}
+use Rattle.aadl.proofs.Utf8Laws.{ill-formed-none}
+use lib.ListN.{length, drop, take, length-drop}
+use borrow.Author.Needs.{needs}
+use Rattle.lexer.proofs.valid_up_to.Statement.{statement}
+use Rattle.lexer.proofs.valid_up_to.Tie as tie
+use Rattle.lexer.proofs.valid_up_to.Reads as reads
+use Rattle.lexer.proofs.valid_up_to.Lts as lts
+use Rattle.runs.proofs.skip_ascii.Reads as skip-ascii-reads
+use Rattle.scan.proofs.scan_sequence.Reads as scan-sequence-reads
+
+abbrev Inv-loop : tie.InvT-loop
+Inv-loop s at₀ at = (at + ill-formed (drop at s) ≡ ill-formed s) × (at ≤ length s)
+
+abbrev μ-loop : tie.MeasureT-loop
+μ-loop s at₀ at = length s - at
+
+skip-ascii-requires : tie.Need-skip-ascii-requires Inv-loop μ-loop
+skip-ascii-requires c κs = search needs
+
+loop-holds : tie.Need-loop-holds Inv-loop μ-loop
+loop-holds c = (c .skip-ascii .ensures .2 ∙ zero-add (ill-formed (c .before .before .args .s .now)), c .skip-ascii .ensures .1)
+
+sub-scan-sequence : tie.Need-sub-scan-sequence Inv-loop μ-loop
+sub-scan-sequence c = search needs
+
+part-scan-sequence-start : tie.Need-part-scan-sequence-start Inv-loop μ-loop
+part-scan-sequence-start c = search needs
+
+part-scan-sequence-end : tie.Need-part-scan-sequence-end Inv-loop μ-loop
+part-scan-sequence-end c = search needs
+
+scan-sequence-requires : tie.Need-scan-sequence-requires Inv-loop μ-loop
+scan-sequence-requires c κs = search needs
+
+returns : tie.Need-returns Inv-loop μ-loop
+returns c =
+    let s = c .before .before .before .before .before .before .before .args .s .now in
+    let l = c .before .before .before .before .loop in
+    let n = c .before .scan-sequence .result in
+    let e = c .before .scan-sequence .ensures ∙ ap sequence (rest s (l .at)) in
+    sym (ill-here s (l .at) n (search needs) e (c .if1 .taken)) ∙ l .inv .0
+
+add-skip-ascii : tie.Need-add-skip-ascii Inv-loop μ-loop
+add-skip-ascii c =
+    let s = c .before .before .before .before .before .before .before .args .s .now in
+    let l = c .before .before .before .before .loop in
+    let n = c .before .scan-sequence .result in
+    let e = c .before .scan-sequence .ensures ∙ ap sequence (rest s (l .at)) in
+    omega (arith, sequence-in s (l .at) n (search needs) e)
+
+skip-ascii-requires-2 : tie.Need-skip-ascii-requires-2 Inv-loop μ-loop
+skip-ascii-requires-2 c κs =
+    let s = c .before .before .before .before .before .before .before .args .s .now in
+    let l = c .before .before .before .before .loop in
+    let n = c .before .scan-sequence .result in
+    let e = c .before .scan-sequence .ensures ∙ ap sequence (rest s (l .at)) in
+    sequence-in s (l .at) n (search needs) e
+
+loop-less : tie.Need-loop-less Inv-loop μ-loop
+loop-less c =
+    let s = c .before .before .before .before .before .before .before .before .args .s .now in
+    let l = c .before .before .before .before .before .loop in
+    let n = c .before .before .scan-sequence .result in
+    let e = c .before .before .scan-sequence .ensures ∙ ap sequence (rest s (l .at)) in
+    let z = c .before .if1 .left in
+    omega (arith, c .skip-ascii2 .ensures .0)
+
+loop-again : tie.Need-loop-again Inv-loop μ-loop
+loop-again c =
+    let s = c .before .before .before .before .before .before .before .before .args .s .now in
+    let l = c .before .before .before .before .before .loop in
+    let n = c .before .before .scan-sequence .result in
+    let e = c .before .before .scan-sequence .ensures ∙ ap sequence (rest s (l .at)) in
+    (c .skip-ascii2 .ensures .2 ∙ sym (ill-next s (l .at) n (search needs) e (c .before .if1 .left)) ∙ l .inv .0, c .skip-ascii2 .ensures .1)
+
+returns-2 : tie.Need-returns-2 Inv-loop μ-loop
+returns-2 c =
+    let s = c .before .before .before .before .args .s .now in
+    let l = c .before .loop in
+    omega (arith, ill-formed-none (drop (l .at) s) (omega (arith, length-drop (l .at) s)))
+
+pub valid-up-to-spec : {M : Type 1} → statement M
+valid-up-to-spec =
+    tie.close
+    (tie.spec
+    Inv-loop
+    μ-loop
+    skip-ascii-requires
+    loop-holds
+    sub-scan-sequence
+    part-scan-sequence-start
+    part-scan-sequence-end
+    scan-sequence-requires
+    returns
+    add-skip-ascii
+    skip-ascii-requires-2
+    loop-less
+    loop-again
+    returns-2)

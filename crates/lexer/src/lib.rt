@@ -1,0 +1,249 @@
+// The tokens-only call: UTF-8, tokens, refusals 1 to 3; and the text of a token by its number.
+
+use aadl::Answer;
+use aadl::Token;
+use classes::peek;
+use runs::CLASSES;
+use runs::line_end;
+use runs::skip_ascii;
+use runs::white_end;
+use runs::word_end;
+use scan::scan_sequence;
+use scan::scan_token;
+use syntax_kind::COLON_COLON;
+use syntax_kind::COMMENT;
+use syntax_kind::FAT_ARROW;
+use syntax_kind::KINDS;
+use syntax_kind::LENGTHS;
+use syntax_kind::LETTERS;
+use syntax_kind::SLOTS;
+use syntax_kind::STARTS;
+use syntax_kind::WHITESPACE;
+use syntax_kind::keyword;
+use syntax_kind::wide;
+use syntax_kind::wide32;
+ghost use mathlib.Core.Path.{_≡_};
+ghost use Prim.Native.Nat.{ℕ, _+_, _≤_, _<_, min};
+ghost use lib.ListN.{length, take, drop, replicate};
+ghost use Rattle.aadl.specs.Limits.{base};
+ghost use Rattle.aadl.specs.Utf8.{ill-formed};
+ghost use Rattle.aadl.specs.Tokens.{total, token-text, token-of};
+ghost use Rattle.aadl.specs.Answers.{tokens-answer, token-words, left-in};
+ghost use Rattle.syntax_kind.specs.Tables.{Lent};
+ghost use Rattle.runs.specs.Classes.{class-table};
+ghost use Rattle.lexer.specs.Filling.{write, filled-of};
+
+// How far tokens went into words: whether one is left without a word, where it starts or the text ends, how many words are written.
+pub struct Filled {
+    pub full: bool,
+    pub at: usize,
+    pub count: usize,
+}
+
+// The token that begins at a place: words, whitespace, comments and common marks by the lent tables, any other by the plain scanner.
+fn scan_at(
+    s: &[u8],
+    at: usize,
+    classes: &[u8; 256],
+    letters: &[u8; 510],
+    starts: &[u16; 82],
+    lengths: &[u8; 82],
+    kinds: &[u8; 82],
+    slots: &[u8; 256],
+) -> Token
+    requires { ⌜ (at < length (now s)) × (now classes ≡ class-table) × Lent (now letters) (now starts) (now lengths) (now kinds) (now slots) ⌝ }
+    ensures { λ r. ⌜ r ≡ token-of (drop at (now (s .entry))) ⌝ }
+{
+    let b = s[at];
+    let k = classes[wide(b)];
+    if k == 61 {
+        let e = word_end(s, at, classes);
+        return Token {
+            kind: keyword(&s[at..e], letters, starts, lengths, kinds, slots),
+            len: e - at,
+        };
+    }
+    if k == 1 {
+        return Token {
+            kind: WHITESPACE,
+            len: white_end(s, at, classes) - at,
+        };
+    }
+    if (5 <= k) & (k < 60) {
+        return Token {
+            kind: wide32(k),
+            len: 1,
+        };
+    }
+    let c = peek(s, at + 1);
+    if (b == b'-') & (c == b'-') {
+        return Token {
+            kind: COMMENT,
+            len: line_end(s, at) - at,
+        };
+    }
+    if (b == b'=') & (c == b'>') {
+        return Token {
+            kind: FAT_ARROW,
+            len: 2,
+        };
+    }
+    if (b == b':') & (c == b':') {
+        return Token {
+            kind: COLON_COLON,
+            len: 2,
+        };
+    }
+    scan_token(&s[at..])
+}
+
+// Where the first ill-formed sequence starts, or the length.
+fn valid_up_to(s: &[u8]) -> usize
+    ensures { λ r. ⌜ r ≡ ill-formed (now (s .entry)) ⌝ }
+{
+    let mut at = skip_ascii(s, 0);
+    while at < s.len() {
+        let n = scan_sequence(&s[at..]);
+        if n == 0 {
+            return at;
+        }
+        at = skip_ascii(s, at + n);
+    }
+    at
+}
+
+// Fills the words with the tokens of a text, as far as they go.
+fn fill(s: &[u8], tokens: &mut [u32]) -> Filled
+    requires { ⌜ length (now s) ≤ 32768 ⌝ }
+    ensures { λ r. ⌜ (r ≡ filled-of (now (s .entry)) (length (now (tokens .entry)))) × (now (tokens .exit) ≡ write (token-words (now (s .entry))) (now (tokens .entry))) ⌝ }
+{
+    let classes = CLASSES;
+    let letters = LETTERS;
+    let starts = STARTS;
+    let lengths = LENGTHS;
+    let kinds = KINDS;
+    let slots = SLOTS;
+    let mut at = 0;
+    let mut n = 0;
+    while at < s.len() {
+        if n == tokens.len() {
+            return Filled {
+                full: true,
+                at,
+                count: n,
+            };
+        }
+        let t = scan_at(s, at, &classes, &letters, &starts, &lengths, &kinds, &slots);
+        let k = t.kind;
+        let l = t.len;
+        tokens[n] = k * 65536 + l as u32;
+        n += 1;
+        at += l;
+    }
+    Filled {
+        full: false,
+        at,
+        count: n,
+    }
+}
+
+// Zeroes every word.
+pub fn clear(words: &mut [u32])
+    ensures { λ r. ⌜ now (words .exit) ≡ replicate (length (now (words .entry))) 0 ⌝ }
+{
+    let mut i = 0;
+    while i < words.len() {
+        words[i] = 0;
+        i += 1;
+    }
+}
+
+// A sum, at most a cap.
+fn add_capped(a: usize, b: usize, cap: usize) -> usize
+    requires { ⌜ a ≤ cap ⌝ }
+    ensures { λ r. ⌜ r ≡ min (a + b) cap ⌝ }
+{
+    if b < cap - a {
+        return a + b;
+    }
+    cap
+}
+
+// The sum of the lengths in the first words, at most a cap.
+fn token_start(words: &[u32], number: usize, cap: usize) -> usize
+    requires { ⌜ number ≤ length (now words) ⌝ }
+    ensures { λ r. ⌜ r ≡ min (total (take number (now (words .entry)))) cap ⌝ }
+{
+    let mut at = 0;
+    let mut k = 0;
+    while k < number {
+        let n = (words[k] % 65536) as usize;
+        at = add_capped(at, n, cap);
+        k += 1;
+    }
+    at
+}
+
+// The text of a token, by its number: a part of the lent text, or the empty part. The words may be any.
+pub fn token_text<'a>(src: &'a [u8], words: &[u32], number: usize) -> &'a [u8]
+    ensures { λ r. ⌜ now r ≡ token-text (now (src .entry)) (now (words .entry)) number ⌝ }
+{
+    if words.len() <= number {
+        return &src[..0];
+    }
+    let cap = src.len() + 1;
+    let from = token_start(words, number, cap);
+    let n = (words[number] % 65536) as usize;
+    let end = add_capped(from, n, cap);
+    if src.len() < end {
+        return &src[..0];
+    }
+    &src[from..end]
+}
+
+// The tokens-only call: the tokens of a text into lent words, or one of the refusals 1 to 3 with all words zeroed.
+pub fn tokenize(src: &[u8], tokens: &mut [u32]) -> Answer
+    ensures { λ r. ⌜ (r ≡ tokens-answer base (now (src .entry)) (length (now (tokens .entry)))) × (now (tokens .exit) ≡ left-in r (token-words (now (src .entry))) (now (tokens .entry))) ⌝ }
+{
+    if 32768 < src.len() {
+        clear(tokens);
+        return Answer {
+            number: 1,
+            place: 32768,
+            tokens: 0,
+            taken: 0,
+            events: 0,
+        };
+    }
+    let v = valid_up_to(src);
+    if v != src.len() {
+        clear(tokens);
+        return Answer {
+            number: 2,
+            place: v,
+            tokens: 0,
+            taken: 0,
+            events: 0,
+        };
+    }
+    let f = fill(src, tokens);
+    let at = f.at;
+    if f.full {
+        clear(tokens);
+        return Answer {
+            number: 3,
+            place: at,
+            tokens: 0,
+            taken: 0,
+            events: 0,
+        };
+    }
+    let n = f.count;
+    Answer {
+        number: 0,
+        place: 0,
+        tokens: n,
+        taken: 0,
+        events: 0,
+    }
+}

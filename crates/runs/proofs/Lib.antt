@@ -1,0 +1,2 @@
+pub mod ClassTable
+pub mod Chunks

@@ -1,0 +1,37 @@
+-- The table of byte classes, as a function of aadl's classes, and bytes above ASCII. Assumes nothing.
+use Prim.Native.Nat.{ℕ, zero, suc}
+use Prim.Native.String.{String}
+use mathlib.Core.Bool.{Bool, true, false, not, cond, _&&_, _||_}
+use mathlib.Core.List.{List, [], _∷_}
+use lib.ListN.{length, take}
+use lib.Dec.{leb}
+use Rattle.predictive.specs.Grammar.{stand}
+use Rattle.aadl.specs.declared.Token.{Token}
+use Rattle.aadl.specs.Words.{bytes}
+use Rattle.aadl.specs.Bytes.{is-whitespace, is-ident-start, is-digit}
+use Rattle.aadl.specs.Tokens.{marks, longest-mark}
+
+-- The values of a function at n numbers, from k on.
+abbrev pub tabled : (ℕ → ℕ) → (k n : ℕ) → List ℕ
+tabled f k zero = []
+tabled f k (suc n) = f k ∷ tabled f (suc k) n
+
+-- No mark of the list is longer than the byte that it begins with.
+abbrev pub no-longer : List String → ℕ → Bool
+no-longer [] b = true
+no-longer (m ∷ ms) b = not (stand (take 1 (bytes m)) (b ∷ []) && leb 2 (length (bytes m))) && no-longer ms b
+
+-- The kind of the mark that is this byte, where no longer one begins with it; else 0.
+abbrev pub lone-mark : ℕ → ℕ
+lone-mark b = cond (no-longer marks b) (longest-mark 5 marks (b ∷ []) .kind) 0
+
+-- whitespace 1, digits 60, letters and `_` 61, a lone mark its kind
+abbrev pub class-of : ℕ → ℕ
+class-of b = cond (is-whitespace b) 1 (cond (is-ident-start b) 61 (cond (is-digit b) 60 (lone-mark b)))
+
+unfoldable pub class-table : List ℕ
+class-table = tabled class-of 0 256
+
+abbrev pub has-high : List ℕ → Bool
+has-high [] = false
+has-high (b ∷ bs) = leb 128 b || has-high bs

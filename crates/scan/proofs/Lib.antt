@@ -1,0 +1,4 @@
+pub mod Walks
+pub mod NumberLaws
+pub mod Rows
+pub mod Marks

@@ -1,0 +1,73 @@
+-- `scan::scan_based` meets its contract: the places found are those of the definition, and so are the tests. Assumes nothing.
+use Prim.Native.Nat.{_+_, _-_}
+use mathlib.Core.Path.{_≡_, sym, _∙_}
+use mathlib.Core.Logic.{⊎-elim}
+use mathlib.Core.Bool.{true, false, _||_, cond}
+use native.Mathlib.Omega.{arith}
+use lib.ListN.{take, drop}
+use lib.Dec.{eqb}
+use Rattle.predictive.specs.Grammar.{has}
+use Rattle.classes.specs.Members.{member}
+use Rattle.classes.specs.declared.Class.the-variants.{Based}
+use Rattle.aadl.specs.Bytes.{peek, is-exponent}
+use Rattle.aadl.specs.Kinds.{INTEGER-LIT, REAL-LIT, #_}
+use Rattle.aadl.specs.Tokens.{token}
+use Rattle.aadl.proofs.TokenBounds.{run-end-upto}
+use Rattle.scan.proofs.NumberLaws.{based-at}
+use borrow.Author.Needs.{needs}
+use Rattle.scan.proofs.scan_based.Statement.{statement}
+use Rattle.scan.proofs.scan_based.Tie as tie
+
+sub-contains : tie.Need-sub-contains
+sub-contains c =
+    let a = c .before .before .before .before .before .args in
+    omega (arith, run-end-upto (member Based) (a .s .now) (a .i) (c .before .before .before .before .before .pre), c .before .before .before .take-while .ensures)
+
+part-contains-start : tie.Need-part-contains-start
+part-contains-start c =
+    let a = c .before .before .before .before .before .args in
+    omega (arith, run-end-upto (member Based) (a .s .now) (a .i) (c .before .before .before .before .before .pre), c .before .before .before .take-while .ensures)
+
+returns : tie.Need-returns
+unfolding member
+returns c =
+    let s = c .before .before .before .before .before .before .before .before .before .args .s .now in
+    let i = c .before .before .before .before .before .before .before .before .before .args .i in
+    let e = c .before .before .before .before .before .before .before .take-while .result in
+    let f = c .before .before .before .before .before .if1 .f in
+    let hash = c .before .before .before .before .before .before .at .ensures in
+    let q : f ≡ cond (eqb (peek s e) 35) (e + 1) e =
+    ⊎-elim (λ w. rw (sym hash ∙ w .0 .taken) (w .1)) (λ w. rw (sym hash ∙ w .0 .left) (w .1)) (c .before .before .before .before .before .if1 .came) in
+    let t : (has (take (e - i) (drop i s)) 46 || is-exponent (peek s f)) ≡ true =
+    sym (λ k. c .before .before .contains .ensures k || c .before .at2 .ensures k) ∙ c .if2 .taken in
+    (λ k. token (cond (sym t k) (# REAL-LIT) (# INTEGER-LIT)) (c .before .before .before .before .exponent .ensures k)) ∙ based-at s i e f (c .before .before .before .before .before .before .before .take-while .ensures .0) q
+
+returns-2 : tie.Need-returns-2
+unfolding member
+returns-2 c =
+    let s = c .before .before .before .before .before .before .before .before .before .args .s .now in
+    let i = c .before .before .before .before .before .before .before .before .before .args .i in
+    let e = c .before .before .before .before .before .before .before .take-while .result in
+    let f = c .before .before .before .before .before .if1 .f in
+    let hash = c .before .before .before .before .before .before .at .ensures in
+    let q : f ≡ cond (eqb (peek s e) 35) (e + 1) e =
+    ⊎-elim (λ w. rw (sym hash ∙ w .0 .taken) (w .1)) (λ w. rw (sym hash ∙ w .0 .left) (w .1)) (c .before .before .before .before .before .if1 .came) in
+    let t : (has (take (e - i) (drop i s)) 46 || is-exponent (peek s f)) ≡ false =
+    sym (λ k. c .before .before .contains .ensures k || c .before .at2 .ensures k) ∙ c .if2 .left in
+    (λ k. token (cond (sym t k) (# REAL-LIT) (# INTEGER-LIT)) (c .before .before .before .before .exponent .ensures k)) ∙ based-at s i e f (c .before .before .before .before .before .before .before .take-while .ensures .0) q
+
+pub scan-based-spec : {M : Type 1} → statement M
+scan-based-spec =
+    tie.close
+    (tie.spec
+    (λ c κs. tt)
+    (λ c κs. tt)
+    (λ c. search needs)
+    (λ c κs. tt)
+    sub-contains
+    part-contains-start
+    (λ c. search needs)
+    (λ c κs. tt)
+    (λ c κs. tt)
+    returns
+    returns-2)
