@@ -59,7 +59,8 @@ three-peeks (a ∷ []) = refl
 three-peeks (a ∷ b ∷ []) = refl
 three-peeks (a ∷ b ∷ c ∷ bs) = refl
 
-pub longest-of-three : (bs : List ℕ) (a b c : ℕ) → a ≡ peek bs 0 → b ≡ peek bs 1 → c ≡ peek bs 2 → longest bs ≡ longest (a ∷ b ∷ c ∷ [])
+pub longest-of-three : (bs : List ℕ) (a b c : ℕ) → a ≡ peek bs 0 → b ≡ peek bs 1 → c ≡ peek bs 2
+    → longest bs ≡ longest (a ∷ b ∷ c ∷ [])
 unfolding marks
 longest-of-three bs a b c p q r =
     longest-peeks 3 5 marks bs refl ∙ ap longest (three-peeks bs ∙ sym (λ i. p i ∷ q i ∷ r i ∷ []))
@@ -126,8 +127,17 @@ module _ (a b k l : ℕ) where
       let q = eqb-true b l (and-r (eqb a k) (eqb b l) e) in
       λ i. p i ∷ q i ∷ []
 
-  pub not-both : (eqb a k && eqb b l) ≡ false → stand (k ∷ l ∷ []) (a ∷ b ∷ []) ≡ false
+  not-both : (eqb a k && eqb b l) ≡ false → stand (k ∷ l ∷ []) (a ∷ b ∷ []) ≡ false
   not-both e = ap (λ (t : Bool). eqb a k && t) (and-true (eqb b l)) ∙ e
+
+-- where no mark of two bytes stands
+pub first-decides : (a b : ℕ) → (eqb a 45 && eqb b 62) ≡ false → (eqb a 45 && eqb b 91) ≡ false → (eqb a 61 && eqb b 62) ≡ false
+    → (eqb a 46 && eqb b 46) ≡ false → (eqb a 58 && eqb b 58) ≡ false → longest (a ∷ b ∷ []) ≡ longest (a ∷ [])
+unfolding marks
+first-decides a b e f g h k =
+    let none : some 2 marks (a ∷ b ∷ []) ≡ false =
+    rw (not-both a b 45 62 e, not-both a b 45 91 f, not-both a b 61 62 g, not-both a b 46 46 h, not-both a b 58 58 k) refl in
+    longest-shorter 1 (a ∷ b ∷ []) (omega arith) none
 
 module _ (a b c k l m : ℕ) where
   pub all-three : ((eqb a k && eqb b l) && eqb c m) ≡ true → (a ∷ b ∷ c ∷ []) ≡ (k ∷ l ∷ m ∷ [])

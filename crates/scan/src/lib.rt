@@ -43,7 +43,7 @@ use syntax_kind::STRING_LIT;
 use syntax_kind::WHITESPACE;
 use syntax_kind::from_keyword;
 ghost use mathlib.Core.Path.{_≡_};
-ghost use mathlib.Core.List.{List, [], _∷_};
+ghost use mathlib.Core.List.{[], _∷_};
 ghost use Prim.Native.Nat.{_≤_};
 ghost use lib.ListN.{length};
 ghost use Rattle.predictive.specs.Grammar.{has};
@@ -205,7 +205,7 @@ pub fn scan_ident_or_keyword(s: &[u8]) -> Token
     }
 }
 
-// Whether a row of table 3-7 with two ranges fits.
+// Whether a row of table 3-7 with two ranges fits: the first byte from low to high, the second from least to most.
 pub fn fits_two(s: &[u8], low: u8, high: u8, least: u8, most: u8) -> bool
     ensures { λ r. ⌜ r ≡ fits (low to high ∷ least to most ∷ []) (now (s .entry)) ⌝ }
 {

@@ -1,6 +1,6 @@
 -- `scan::contains` meets its contract. The loop's invariant: the byte stands in the text just if it stands from `i` on. The measure is
 -- what is left of the text. Assumes nothing.
-use Prim.Native.Nat.{_≤_, _-_}
+use Prim.Native.Nat.{_-_}
 use mathlib.Core.Path.{_≡_, refl, sym, _∙_}
 use lib.ListN.{length, drop}
 use Rattle.predictive.specs.Grammar.{has}

@@ -1,4 +1,5 @@
--- `scan::is_c_style` meets its contract: where d is 1 the tests are the definition's. Assumes nothing.
+-- `scan::is_c_style` meets its contract: where d is 1 the tests are the definition's.
+-- The place of the n-th `if` is qn. Assumes nothing.
 use mathlib.Core.Path.{refl}
 use borrow.Author.Tests.{ne-eqb}
 use Rattle.scan.proofs.is_c_style.Statement.{statement}
@@ -9,7 +10,10 @@ returns c = rw (ne-eqb (c .before .before .args .d) 1 (c .if1 .taken)) refl
 
 returns-2 : tie.Need-returns-2
 returns-2 c =
-    rw (c .before .before .before .before .if1 .left, c .is-hex-digit .ensures, c .before .peek3 .ensures, c .before .before .peek2 .ensures, c .before .before .before .peek .ensures) refl
+    let q1 = c .before .before .before .before in
+    let m = c .before .before .before .peek .ensures in
+    let b = c .before .before .peek2 .ensures in
+    rw (q1 .if1 .left, c .is-hex-digit .ensures, c .before .peek3 .ensures, b, m) refl
 
 pub is-c-style-spec : {M : Type 1} → statement M
 is-c-style-spec =

@@ -1,4 +1,5 @@
--- `scan::mark_three` meets its contract: a mark of three bytes stands, or the first two decide. Assumes nothing.
+-- `scan::mark_three` meets its contract: a mark of three bytes stands, or the first two decide.
+-- The place of the n-th `if` is qn. Assumes nothing.
 use mathlib.Core.Path.{_≡_, refl, sym, ap, _∙_}
 use mathlib.Core.Bool.{false}
 use mathlib.Core.List.{[], _∷_}

@@ -1,11 +1,9 @@
--- `scan::mark_two` meets its contract: a mark of two bytes stands, or the first byte decides. Assumes nothing.
-use mathlib.Core.Path.{_≡_, refl, sym, ap, _∙_}
-use mathlib.Core.Bool.{false}
-use mathlib.Core.List.{[], _∷_}
-use native.Mathlib.Omega.{arith}
+-- `scan::mark_two` meets its contract: a mark of two bytes stands, or the first byte decides.
+-- The place of the n-th `if` is qn. Assumes nothing.
+use mathlib.Core.Path.{sym, ap, _∙_}
 use Rattle.aadl.specs.Tokens.{marks}
 use Rattle.scan.specs.Inner.{single, longest}
-use Rattle.scan.proofs.Marks.{both, not-both, some, longest-shorter, single-mark}
+use Rattle.scan.proofs.Marks.{both, first-decides, single-mark}
 use Rattle.scan.proofs.mark_two.Statement.{statement}
 use Rattle.scan.proofs.mark_two.Tie as tie
 
@@ -40,7 +38,6 @@ returns-5 c =
     sym (ap longest (both (a .a) (a .b) 58 58 (c .if5 .taken)))
 
 returns-6 : tie.Need-returns-6
-unfolding marks
 returns-6 c =
     let q5 = c .before .before in
     let q4 = q5 .before in
@@ -48,19 +45,10 @@ returns-6 c =
     let q2 = q3 .before in
     let q1 = q2 .before in
     let a = q1 .before .args in
-    let none : some 2 marks (a .a ∷ a .b ∷ []) ≡ false =
-    rw (
-      not-both (a .a) (a .b) 45 62 (q1 .if1 .left),
-      not-both (a .a) (a .b) 45 91 (q2 .if2 .left),
-      not-both (a .a) (a .b) 61 62 (q3 .if3 .left),
-      not-both (a .a) (a .b) 46 46 (q4 .if4 .left),
-      not-both (a .a) (a .b) 58 58 (q5 .if5 .left),
-    ) refl in
-    let shorter = longest-shorter 1 (a .a ∷ a .b ∷ []) (omega arith) none in
-    sym (ap single (c .if6 .taken)) ∙ c .before .mark-one .ensures ∙ sym shorter
+    let first = first-decides (a .a) (a .b) (q1 .if1 .left) (q2 .if2 .left) (q3 .if3 .left) (q4 .if4 .left) (q5 .if5 .left) in
+    sym (ap single (c .if6 .taken)) ∙ c .before .mark-one .ensures ∙ sym first
 
 returns-7 : tie.Need-returns-7
-unfolding marks
 returns-7 c =
     let q5 = c .before .before in
     let q4 = q5 .before in
@@ -68,16 +56,8 @@ returns-7 c =
     let q2 = q3 .before in
     let q1 = q2 .before in
     let a = q1 .before .args in
-    let none : some 2 marks (a .a ∷ a .b ∷ []) ≡ false =
-    rw (
-      not-both (a .a) (a .b) 45 62 (q1 .if1 .left),
-      not-both (a .a) (a .b) 45 91 (q2 .if2 .left),
-      not-both (a .a) (a .b) 61 62 (q3 .if3 .left),
-      not-both (a .a) (a .b) 46 46 (q4 .if4 .left),
-      not-both (a .a) (a .b) 58 58 (q5 .if5 .left),
-    ) refl in
-    let shorter = longest-shorter 1 (a .a ∷ a .b ∷ []) (omega arith) none in
-    single-mark (c .before .mark-one .result) (c .if6 .left) ∙ c .before .mark-one .ensures ∙ sym shorter
+    let first = first-decides (a .a) (a .b) (q1 .if1 .left) (q2 .if2 .left) (q3 .if3 .left) (q4 .if4 .left) (q5 .if5 .left) in
+    single-mark (c .before .mark-one .result) (c .if6 .left) ∙ c .before .mark-one .ensures ∙ sym first
 
 pub mark-two-spec : {M : Type 1} → statement M
 mark-two-spec =

@@ -1,4 +1,5 @@
--- `scan::scan_based` meets its contract: the places found are those of the definition, and so are the tests. Assumes nothing.
+-- `scan::scan_based` meets its contract: the places found are those of the definition, and so are the tests.
+-- The place of the n-th `if` is qn. Assumes nothing.
 use Prim.Native.Nat.{_+_, _-_}
 use mathlib.Core.Path.{_≡_, sym, _∙_}
 use mathlib.Core.Logic.{⊎-elim}
@@ -20,41 +21,51 @@ use Rattle.scan.proofs.scan_based.Tie as tie
 
 sub-contains : tie.Need-sub-contains
 sub-contains c =
-    let a = c .before .before .before .before .before .args in
-    omega (arith, run-end-upto (member Based) (a .s .now) (a .i) (c .before .before .before .before .before .pre), c .before .before .before .take-while .ensures)
+    let w = c .before .before .before in
+    let a = w .before .before .args in
+    omega (arith, run-end-upto (member Based) (a .s .now) (a .i) (w .before .before .pre), w .take-while .ensures)
 
 part-contains-start : tie.Need-part-contains-start
 part-contains-start c =
-    let a = c .before .before .before .before .before .args in
-    omega (arith, run-end-upto (member Based) (a .s .now) (a .i) (c .before .before .before .before .before .pre), c .before .before .before .take-while .ensures)
+    let w = c .before .before .before in
+    let a = w .before .before .args in
+    omega (arith, run-end-upto (member Based) (a .s .now) (a .i) (w .before .before .pre), w .take-while .ensures)
 
 returns : tie.Need-returns
 unfolding member
 returns c =
-    let s = c .before .before .before .before .before .before .before .before .before .args .s .now in
-    let i = c .before .before .before .before .before .before .before .before .before .args .i in
-    let e = c .before .before .before .before .before .before .before .take-while .result in
-    let f = c .before .before .before .before .before .if1 .f in
-    let hash = c .before .before .before .before .before .before .at .ensures in
-    let q : f ≡ cond (eqb (peek s e) 35) (e + 1) e =
-    ⊎-elim (λ w. rw (sym hash ∙ w .0 .taken) (w .1)) (λ w. rw (sym hash ∙ w .0 .left) (w .1)) (c .before .before .before .before .before .if1 .came) in
-    let t : (has (take (e - i) (drop i s)) 46 || is-exponent (peek s f)) ≡ true =
+    let x = c .before .before .before .before in
+    let q1 = x .before in
+    let w = q1 .before .before in
+    let s = w .before .before .args .s .now in
+    let i = w .before .before .args .i in
+    let e = w .take-while .result in
+    let f = q1 .if1 .f in
+    let hash = q1 .before .at .ensures in
+    let past : f ≡ cond (eqb (peek s e) 35) (e + 1) e =
+    ⊎-elim (λ y. rw (sym hash ∙ y .0 .taken) (y .1)) (λ n. rw (sym hash ∙ n .0 .left) (n .1)) (q1 .if1 .came) in
+    let real : (has (take (e - i) (drop i s)) 46 || is-exponent (peek s f)) ≡ true =
     sym (λ k. c .before .before .contains .ensures k || c .before .at2 .ensures k) ∙ c .if2 .taken in
-    (λ k. token (cond (sym t k) (# REAL-LIT) (# INTEGER-LIT)) (c .before .before .before .before .exponent .ensures k)) ∙ based-at s i e f (c .before .before .before .before .before .before .before .take-while .ensures .0) q
+    (λ k. token (cond (sym real k) (# REAL-LIT) (# INTEGER-LIT)) (x .exponent .ensures k))
+    ∙ based-at s i e f (w .take-while .ensures .0) past
 
 returns-2 : tie.Need-returns-2
 unfolding member
 returns-2 c =
-    let s = c .before .before .before .before .before .before .before .before .before .args .s .now in
-    let i = c .before .before .before .before .before .before .before .before .before .args .i in
-    let e = c .before .before .before .before .before .before .before .take-while .result in
-    let f = c .before .before .before .before .before .if1 .f in
-    let hash = c .before .before .before .before .before .before .at .ensures in
-    let q : f ≡ cond (eqb (peek s e) 35) (e + 1) e =
-    ⊎-elim (λ w. rw (sym hash ∙ w .0 .taken) (w .1)) (λ w. rw (sym hash ∙ w .0 .left) (w .1)) (c .before .before .before .before .before .if1 .came) in
-    let t : (has (take (e - i) (drop i s)) 46 || is-exponent (peek s f)) ≡ false =
+    let x = c .before .before .before .before in
+    let q1 = x .before in
+    let w = q1 .before .before in
+    let s = w .before .before .args .s .now in
+    let i = w .before .before .args .i in
+    let e = w .take-while .result in
+    let f = q1 .if1 .f in
+    let hash = q1 .before .at .ensures in
+    let past : f ≡ cond (eqb (peek s e) 35) (e + 1) e =
+    ⊎-elim (λ y. rw (sym hash ∙ y .0 .taken) (y .1)) (λ n. rw (sym hash ∙ n .0 .left) (n .1)) (q1 .if1 .came) in
+    let real : (has (take (e - i) (drop i s)) 46 || is-exponent (peek s f)) ≡ false =
     sym (λ k. c .before .before .contains .ensures k || c .before .at2 .ensures k) ∙ c .if2 .left in
-    (λ k. token (cond (sym t k) (# REAL-LIT) (# INTEGER-LIT)) (c .before .before .before .before .exponent .ensures k)) ∙ based-at s i e f (c .before .before .before .before .before .before .before .take-while .ensures .0) q
+    (λ k. token (cond (sym real k) (# REAL-LIT) (# INTEGER-LIT)) (x .exponent .ensures k))
+    ∙ based-at s i e f (w .take-while .ensures .0) past
 
 pub scan-based-spec : {M : Type 1} → statement M
 scan-based-spec =

@@ -1,4 +1,5 @@
--- `scan::scan_number_from` meets its contract: each return is a case of the definition. Assumes nothing.
+-- `scan::scan_number_from` meets its contract: each return is a case of the definition.
+-- The place of the n-th `if` is qn. Assumes nothing.
 use Prim.Native.Nat.{ℕ, _+_}
 use mathlib.Core.Path.{_≡_, refl, sym, ap, _∙_}
 use mathlib.Core.Bool.{true, false, not, _&&_}

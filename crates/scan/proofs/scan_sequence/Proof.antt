@@ -1,4 +1,5 @@
--- `scan::scan_sequence` meets its contract: the rows that were tried did not fit, and one of the last did. Assumes nothing.
+-- `scan::scan_sequence` meets its contract: the rows that were tried did not fit, and one of the last did.
+-- The place of the n-th `if` is qn. Assumes nothing.
 use mathlib.Core.Path.{_≡_, refl, sym, _∙_}
 use mathlib.Core.Bool.{true, false, _&&_, _||_}
 use lib.ListN.{length}

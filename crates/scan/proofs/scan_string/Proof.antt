@@ -1,8 +1,7 @@
 -- `scan::scan_string` meets its contract. The loop's invariant: the string is the bytes passed with what those from `i` on add. The
 -- measure is what is left of the text. Assumes nothing.
-use Prim.Native.Nat.{_≤_, _-_}
+use Prim.Native.Nat.{_-_}
 use mathlib.Core.Path.{_≡_, sym, _∙_}
-use native.Mathlib.Omega.{arith}
 use lib.ListN.{length, drop}
 use Rattle.aadl.specs.Tokens.{quoted, string-of}
 use Rattle.scan.proofs.Walks.{after, string-begins, string-stop, string-more, string-over}

@@ -1,4 +1,4 @@
--- `scan::scan_token` meets its contract: each return is a case of the definition. Assumes nothing.
+-- `scan::scan_token` meets its contract: each return is a case of the definition. The place of the n-th `if` is qn. Assumes nothing.
 use mathlib.Core.Path.{_≡_, sym, ap, _∙_}
 use mathlib.Core.Bool.{true, false, _&&_}
 use lib.Dec.{eqb}

@@ -1,0 +1,52 @@
+//! Compares the program `replay` with the oracle on texts made here, or writes a sample of records with the oracle's answers.
+//!   compare run COUNT SEED tokens|sections ORACLE REPLAY
+//!   compare sample TOKENS SECTIONS ORACLE STDIN STDOUT
+//! tools/README.md says what a record is.
+mod comparison;
+mod every;
+mod families;
+mod programs;
+mod random;
+mod samples;
+mod sections;
+mod source;
+mod texts;
+mod words;
+
+use comparison::compare;
+use programs::{records_bytes, run, Pair};
+use samples::sample;
+use std::sync::Arc;
+
+fn usage() -> ! {
+    eprintln!("compare run COUNT SEED tokens|sections ORACLE REPLAY");
+    eprintln!("compare sample TOKENS SECTIONS ORACLE STDIN STDOUT");
+    std::process::exit(2);
+}
+
+fn number<T: std::str::FromStr>(text: &str) -> T {
+    text.parse().unwrap_or_else(|_| usage())
+}
+
+fn main() {
+    let args: Vec<String> = std::env::args().collect();
+    let args: Vec<&str> = args.iter().skip(1).map(String::as_str).collect();
+    match args[..] {
+        ["run", count, seed, mode @ ("tokens" | "sections"), oracle, replay] => {
+            let pair = Pair { oracle: oracle.to_string(), replay: replay.to_string() };
+            let same = compare(number(count), number(seed), mode == "sections", &pair);
+            std::process::exit(if same { 0 } else { 1 });
+        }
+        ["sample", tokens, sections, oracle, stdin, stdout] => {
+            let mut records = sample(number(tokens), false);
+            records.extend(sample(number(sections), true));
+            let input = records_bytes(&records);
+            let (output, well) = run(oracle, Arc::new(input.clone()));
+            assert!(well, "the oracle did not end well");
+            std::fs::write(stdin, &input).expect("write");
+            std::fs::write(stdout, &output).expect("write");
+            println!("{} records, {} bytes of stdin, {} bytes of stdout", records.len(), input.len(), output.len());
+        }
+        _ => usage(),
+    }
+}

@@ -1,0 +1,140 @@
+//! Where the records come from: texts of all families, with more or fewer words lent.
+use crate::families::{self, Family, Maker};
+use crate::programs::{Record, TOKENS_ONLY};
+use crate::random::Rng;
+use crate::{sections, texts};
+
+/// The most bytes or words of a sort that a record has.
+const MOST: usize = 40_000;
+
+/// One batch goes through one run of each program.
+const BATCH_RECORDS: usize = 20_000;
+const BATCH_BYTES: usize = 2_000_000;
+
+/// A long text once in so many.
+const LONG_ONCE_IN: usize = 4_000;
+
+/// Of the answered records, one in so many is asked again with exactly enough words, and with too few.
+const AGAIN_ONCE_IN: usize = 8;
+
+pub struct Source {
+    pub families: Vec<Family>,
+    pub names: Vec<&'static str>,
+    sections: bool,
+    pub rng: Rng,
+    /// Records that an answer asked for.
+    asked: Vec<Record>,
+}
+
+const EXTRA: [&str; 3] = ["long texts", "many events", "word counts"];
+
+impl Source {
+    pub fn new(seed: u64, sections: bool) -> Source {
+        let families = if sections { families::sections() } else { families::tokens() };
+        let names = families.iter().map(|f| f.name).chain(EXTRA).collect();
+        Source { families, names, sections, rng: Rng::new(seed), asked: Vec::new() }
+    }
+
+    fn extra(&self, which: usize) -> usize {
+        self.families.len() + which
+    }
+
+    /// A family that still has texts: half the time one that gives each of its texts once, by how many it has left.
+    fn family(&mut self) -> usize {
+        let left: Vec<u64> = self.families.iter().map(|f| if let Maker::Every(e) = &f.maker { e.left() } else { 0 }).collect();
+        let random: Vec<u64> =
+            self.families.iter().map(|f| if let Maker::Random(w, _) = &f.maker { u64::from(*w) } else { 0 }).collect();
+        let weights = if left.iter().sum::<u64>() > 0 && self.rng.once_in(2) { left } else { random };
+        let mut at = self.rng.below(weights.iter().sum::<u64>() as usize) as u64;
+        for (i, w) in weights.iter().enumerate() {
+            if at < *w {
+                return i;
+            }
+            at -= w;
+        }
+        unreachable!("some weight is larger")
+    }
+
+    fn text(&mut self) -> (usize, Vec<u8>) {
+        if self.rng.once_in(LONG_ONCE_IN) {
+            return (self.extra(0), texts::long(&mut self.rng));
+        }
+        if self.sections && self.rng.once_in(LONG_ONCE_IN) {
+            return (self.extra(1), sections::many_events(&mut self.rng));
+        }
+        let family = self.family();
+        let text = match &mut self.families[family].maker {
+            Maker::Every(e) => e.next().expect("some left"),
+            Maker::Random(_, make) => make(&mut self.rng),
+        };
+        (family, text)
+    }
+
+    /// How many words to lend for a count that is enough: more, as many, or fewer.
+    pub fn lent(&mut self, enough: usize) -> u32 {
+        let most = enough.min(MOST);
+        let lent = match self.rng.below(8) {
+            0 => self.rng.below(most + 1),
+            1 => self.rng.below(2),
+            2 => most,
+            _ => most + self.rng.below(3),
+        };
+        lent.min(MOST) as u32
+    }
+
+    /// A new record. A text has no more tokens than bytes, and fewer events than eight for each token.
+    fn next(&mut self) -> Record {
+        if let Some(record) = self.asked.pop() {
+            return record;
+        }
+        let (family, text) = self.text();
+        let tokens = if self.sections { (text.len() + 1).min(MOST) as u32 } else { self.lent(text.len()) };
+        let events = if self.sections { self.lent(8 * text.len()) } else { TOKENS_ONLY };
+        Record { family, text, tokens, events }
+    }
+
+    /// The same text with exactly as many words as the answer counts, and with fewer.
+    pub fn again(&mut self, record: &Record, tokens: usize, events: usize) {
+        if record.family == self.extra(2) || !self.rng.once_in(AGAIN_ONCE_IN) {
+            return;
+        }
+        let family = self.extra(2);
+        let mut ask = |t: usize, e: u32| {
+            let again = Record { family, text: record.text.clone(), tokens: t as u32, events: e };
+            self.asked.push(again);
+        };
+        if !self.sections {
+            ask(tokens, TOKENS_ONLY);
+            ask(tokens.saturating_sub(1), TOKENS_ONLY);
+            return;
+        }
+        let exact = events as u32;
+        ask(tokens, exact);
+        ask(tokens, exact.saturating_sub(1));
+        ask(tokens.saturating_sub(1), exact);
+        let fewer = self.rng.below(events + 1) as u32;
+        self.asked.push(Record { family, text: record.text.clone(), tokens: tokens as u32, events: fewer });
+    }
+
+    /// The same text with about as many event words as stand before the 65th opener, so that 5 or 6 comes first.
+    pub fn again_at_openers(&mut self, record: &Record) {
+        let family = self.extra(2);
+        if record.family != family {
+            for _ in 0..4 {
+                let events = 120 + self.rng.below(360) as u32;
+                self.asked.push(Record { family, text: record.text.clone(), tokens: record.tokens, events });
+            }
+        }
+    }
+
+    pub fn batch(&mut self, most: usize) -> Vec<Record> {
+        let mut records = Vec::new();
+        let mut size = 0;
+        while records.len() < most.min(BATCH_RECORDS) && size < BATCH_BYTES {
+            let record = self.next();
+            size += record.text.len() + 12;
+            records.push(record);
+        }
+        records
+    }
+}

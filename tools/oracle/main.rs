@@ -1,0 +1,293 @@
+//! The oracle: for each record of standard input the four lines that 01 asks for, from the given Rust. The Rust has no limits and no
+//! refusals; this file puts 01's around it. tools/README.md says what a record is and what is written for one.
+use spar::event::Event;
+use spar::lexer::tokenize;
+use spar::parser::Parser;
+use spar::syntax_kind::SyntaxKind;
+use std::collections::HashMap;
+use std::io::{self, BufReader, BufWriter, ErrorKind, Read, Write};
+
+/// 01's limits.
+const MOST_BYTES: usize = 32_768;
+const MOST_EVENTS: usize = 32_768;
+const MOST_OPENERS: usize = 64;
+
+/// A record's limits, and what stands there for the tokens-only call.
+const MOST_IN_RECORD: u32 = 40_000;
+const TOKENS_ONLY: u32 = u32::MAX;
+
+struct Record {
+    text: Vec<u8>,
+    tokens: usize,
+    /// None for the tokens-only call.
+    events: Option<usize>,
+}
+
+enum Next {
+    Record(Record),
+    End,
+    Bad,
+}
+
+/// A refusal's number and place.
+struct Refusal(u32, usize);
+
+/// What a call that is not refused leaves: token words, tokens taken, event words.
+struct Reading {
+    tokens: Vec<u32>,
+    taken: usize,
+    events: Vec<u32>,
+}
+
+type Token = (SyntaxKind, usize);
+
+/// Error texts of the Rust and 01's message numbers.
+struct Messages(HashMap<String, u32>);
+
+impl Messages {
+    fn new() -> Messages {
+        let fixed = [
+            (1, "expected `=>` or `+=>`"),
+            (2, "expected property name after `::`"),
+            (3, "expected property name"),
+            (4, "C-style radix literal is not valid AADL; use based notation, e.g. `16#…#` for hexadecimal"),
+            (5, "expected property expression"),
+            (6, "expected identifier after `::`"),
+            (7, "expected implementation name after `.`"),
+            (8, "expected `bus` or `processor` after `virtual`"),
+        ];
+        let mut all: HashMap<String, u32> = fixed.iter().map(|(n, m)| (m.to_string(), *n)).collect();
+        for number in 0..SyntaxKind::__LAST as u16 {
+            // The kinds are numbered from 0 without a gap, in 16 bits.
+            let kind: SyntaxKind = unsafe { std::mem::transmute(number) };
+            all.insert(format!("expected {:?}", kind), 256 + u32::from(number));
+        }
+        Messages(all)
+    }
+
+    fn number(&self, text: &str) -> u32 {
+        *self.0.get(text).unwrap_or_else(|| panic!("a message that 01 does not number: {}", text))
+    }
+}
+
+fn event_word(event: &Event, messages: &Messages) -> u32 {
+    let word = |class: u32, kind: u32, last: u32| class * 16_777_216 + kind * 65_536 + last;
+    match event {
+        Event::Start { kind, forward_parent } => word(0, *kind as u32, forward_parent.unwrap_or(0)),
+        Event::Token { kind, n_raw_tokens } => word(1, *kind as u32, u32::from(*n_raw_tokens)),
+        Event::Finish => word(2, 0, 0),
+        Event::Error { msg } => word(3, 0, messages.number(msg)),
+        Event::Tombstone => word(4, 0, 0),
+    }
+}
+
+/// Whether the Start at an index is an opener's: `not` or a sign before an operand, `(` of a list or of bindings, `[` of a record.
+/// Its own token is the very next event.
+fn is_opener(events: &[Event], at: usize) -> bool {
+    let Event::Start { kind, .. } = &events[at] else { return false };
+    let first = match events.get(at + 1) {
+        Some(Event::Token { kind, .. }) => *kind,
+        _ => return false,
+    };
+    match kind {
+        SyntaxKind::BOOLEAN_VALUE => first == SyntaxKind::NOT_KW,
+        SyntaxKind::PROPERTY_EXPRESSION => matches!(first, SyntaxKind::PLUS | SyntaxKind::MINUS),
+        SyntaxKind::LIST_VALUE | SyntaxKind::PROTOTYPE_BINDING_LIST => first == SyntaxKind::L_PAREN,
+        SyntaxKind::RECORD_VALUE => first == SyntaxKind::L_BRACKET,
+        _ => false,
+    }
+}
+
+/// Refusals 5 and 6 by reading order. Starts and Finishes nest in the order in which they were pushed, forward parents or not: a node
+/// that is put around another is started after that one's Finish. `starts` are the non-trivia tokens' places, then the text's length.
+fn limits(events: &[Event], lent: usize, starts: &[usize]) -> Result<usize, Refusal> {
+    let words = lent.min(MOST_EVENTS);
+    let mut taken = 0;
+    let mut open = 0;
+    let mut nodes: Vec<bool> = Vec::new();
+    for (at, event) in events.iter().enumerate() {
+        let opener = is_opener(events, at);
+        if opener && open == MOST_OPENERS {
+            return Err(Refusal(6, starts[taken]));
+        }
+        if at >= words {
+            return Err(Refusal(5, starts[taken]));
+        }
+        match event {
+            Event::Start { .. } => {
+                nodes.push(opener);
+                open += usize::from(opener);
+            }
+            Event::Token { .. } => taken += 1,
+            Event::Finish => open -= usize::from(nodes.pop().expect("a Finish without a Start")),
+            Event::Error { .. } => {}
+            Event::Tombstone => panic!("a Tombstone, which 01 says never occurs"),
+        }
+    }
+    assert!(nodes.is_empty(), "a Start without a Finish");
+    Ok(taken)
+}
+
+/// The tokens of a text, or one of the refusals 1 to 3.
+fn tokens(record: &Record) -> Result<(&str, Vec<Token>), Refusal> {
+    if record.text.len() > MOST_BYTES {
+        return Err(Refusal(1, MOST_BYTES));
+    }
+    let text = std::str::from_utf8(&record.text).map_err(|e| Refusal(2, e.valid_up_to()))?;
+    let tokens = tokenize(text);
+    if tokens.len() > record.tokens {
+        let place = tokens[..record.tokens].iter().map(|t| t.1).sum();
+        return Err(Refusal(3, place));
+    }
+    Ok((text, tokens))
+}
+
+/// The events of a section and how many tokens it takes, or one of the refusals 4 to 6.
+fn section(text: &str, tokens: &[Token], lent: usize) -> Result<(usize, Vec<Event>), Refusal> {
+    let mut starts = Vec::new();
+    let mut first = None;
+    let mut at = 0;
+    for (kind, len) in tokens {
+        if !kind.is_trivia() {
+            starts.push(at);
+            first = first.or(Some(*kind));
+        }
+        at += len;
+    }
+    starts.push(at);
+    if first != Some(SyntaxKind::PROPERTIES_KW) {
+        return Err(Refusal(4, starts[0]));
+    }
+    let mut parser = Parser::new(tokens, text);
+    parser.run_property_section();
+    let events = parser.finish();
+    let taken = limits(&events, lent, &starts)?;
+    Ok((taken, events))
+}
+
+fn call(record: &Record, messages: &Messages) -> Result<Reading, Refusal> {
+    let (text, tokens) = tokens(record)?;
+    let (taken, events) = match record.events {
+        None => (0, Vec::new()),
+        Some(lent) => section(text, &tokens, lent)?,
+    };
+    Ok(Reading {
+        tokens: tokens.iter().map(|(kind, len)| *kind as u32 * 65_536 + *len as u32).collect(),
+        taken,
+        events: events.iter().map(|e| event_word(e, messages)).collect(),
+    })
+}
+
+fn write_words(out: &mut Vec<u8>, name: &str, words: &[u32]) {
+    out.extend_from_slice(name.as_bytes());
+    for w in words {
+        out.push(b' ');
+        write_number(out, *w);
+    }
+    out.push(b'\n');
+}
+
+fn write_number(out: &mut Vec<u8>, number: u32) {
+    let mut digits = [0; 10];
+    let mut at = digits.len();
+    let mut left = number;
+    loop {
+        at -= 1;
+        digits[at] = b'0' + (left % 10) as u8;
+        left /= 10;
+        if left == 0 {
+            break;
+        }
+    }
+    out.extend_from_slice(&digits[at..]);
+}
+
+/// A refusal zeroes every lent word; otherwise the unused ones keep what they held.
+fn write_record(out: &mut Vec<u8>, record: &Record, answer: Result<Reading, Refusal>) {
+    let events = record.events.unwrap_or(0);
+    match answer {
+        Err(Refusal(number, place)) => {
+            write_words(out, "answer", &[number, place as u32, 0, 0, 0]);
+            out.extend_from_slice(b"tokens\nevents\n");
+            write_words(out, "rest", &[record.tokens as u32, events as u32]);
+        }
+        Ok(read) => {
+            let counts = [read.tokens.len(), read.taken, read.events.len()];
+            write_words(out, "answer", &[0, 0, counts[0] as u32, counts[1] as u32, counts[2] as u32]);
+            write_words(out, "tokens", &read.tokens);
+            write_words(out, "events", &read.events);
+            write_words(out, "rest", &[(record.tokens - counts[0]) as u32, (events - counts[2]) as u32]);
+        }
+    }
+}
+
+/// As many bytes as there are, up to the buffer's length.
+fn read_full(input: &mut impl Read, buf: &mut [u8]) -> usize {
+    let mut done = 0;
+    while done < buf.len() {
+        match input.read(&mut buf[done..]) {
+            Ok(0) => break,
+            Ok(n) => done += n,
+            Err(e) if e.kind() == ErrorKind::Interrupted => {}
+            Err(_) => break,
+        }
+    }
+    done
+}
+
+fn next(input: &mut impl Read) -> Next {
+    let mut head = [0; 12];
+    match read_full(input, &mut head) {
+        0 => return Next::End,
+        12 => {}
+        _ => return Next::Bad,
+    }
+    let number = |at: usize| u32::from_le_bytes([head[at], head[at + 1], head[at + 2], head[at + 3]]);
+    let (length, tokens, events) = (number(0), number(4), number(8));
+    let long = |n: u32| n > MOST_IN_RECORD;
+    if long(length) || long(tokens) || (events != TOKENS_ONLY && long(events)) {
+        return Next::Bad;
+    }
+    let mut text = vec![0; length as usize];
+    if read_full(input, &mut text) < text.len() {
+        return Next::Bad;
+    }
+    let events = if events == TOKENS_ONLY { None } else { Some(events as usize) };
+    Next::Record(Record { text, tokens: tokens as usize, events })
+}
+
+fn answer_all() -> io::Result<()> {
+    let messages = Messages::new();
+    let mut input = BufReader::with_capacity(1 << 16, io::stdin().lock());
+    let mut output = BufWriter::with_capacity(1 << 16, io::stdout().lock());
+    let mut lines = Vec::new();
+    loop {
+        lines.clear();
+        match next(&mut input) {
+            Next::End => break,
+            Next::Bad => {
+                output.write_all(b"bad record\n")?;
+                break;
+            }
+            Next::Record(record) => {
+                let answer = call(&record, &messages);
+                write_record(&mut lines, &record, answer);
+                output.write_all(&lines)?;
+            }
+        }
+    }
+    output.flush()
+}
+
+/// The Rust's recursion has no bound, so it gets a large stack.
+fn main() {
+    let thread = std::thread::Builder::new().stack_size(1 << 30).spawn(answer_all);
+    match thread.expect("no thread").join() {
+        Ok(Ok(())) => {}
+        Ok(Err(e)) => {
+            eprintln!("oracle: {}", e);
+            std::process::exit(1);
+        }
+        Err(_) => std::process::exit(1),
+    }
+}
