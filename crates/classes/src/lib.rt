@@ -31,7 +31,7 @@ pub fn is_ident_start(b: u8) -> bool
     ((b'a' <= b) & (b <= b'z')) | ((b'A' <= b) & (b <= b'Z')) | (b == b'_')
 }
 
-pub fn is_ident_continue(b: u8) -> bool
+fn is_ident_continue(b: u8) -> bool
     ensures { λ r. ⌜ r ≡ bytes.is-ident-continue b ⌝ }
 {
     is_ident_start(b) | is_digit(b)
@@ -50,7 +50,7 @@ pub fn is_hex_digit(b: u8) -> bool
 }
 
 // Whether a byte is of a class.
-pub fn in_class(b: u8, class: Class) -> bool
+fn in_class(b: u8, class: Class) -> bool
     ensures { λ r. ⌜ r ≡ member class b ⌝ }
 {
     match class {

@@ -1,35 +1,80 @@
--- Many bytes at a time: where none of the next n bytes is an LF, a line goes on over all of them; where none is above 127, all of them
--- are well-formed. By induction over the n bytes. Assumes nothing.
+-- Many bytes at a time: where none of the next n bytes is sought, a run of bytes that are not goes on over all of them. A line is a run
+-- of bytes that are no LF, and bytes below 128 are well-formed one by one. By induction over the bytes. Assumes nothing.
 use Prim.Native.Nat.{ℕ, zero, suc, _+_, _≤_, _<_}
-use native.Mathlib.Nat.{zero-add, add-suc, suc-add, add-assoc, le-of-suc-le-suc, not-suc-le-zero}
+use native.Mathlib.Nat.{zero-add, suc-add, add-assoc, le-of-suc-le-suc, not-suc-le-zero}
 use native.Mathlib.Numerals.{add-one}
 use native.Mathlib.Omega.{arith}
 use mathlib.Core.Path.{_≡_, refl, sym, ap, _∙_}
-use mathlib.Core.Bool.{Bool, true, false, cond, _&&_, _||_, or-assoc, or-false}
+use mathlib.Core.Bool.{Bool, true, false, not, cond, _&&_, _||_, or-assoc, or-false}
 use mathlib.Core.List.{List, [], _∷_}
 use lib.ListN.{length, getD, take, drop, drop-of-length-le, length-drop}
 use lib.Seq.{drop-cons, drop-drop}
 use lib.Dec.{leb, eqb}
-use borrow.Author.Tests.{leb-false, le-leb, lt-leb, ne-eqb, eqb-true, eqb-false}
-use Rattle.predictive.specs.Grammar.{has}
-use Rattle.predictive.proofs.Tests.{or-l, or-r}
+use borrow.Author.Tests.{leb-false, leb-true, le-leb, eqb-true, eqb-false}
+use Rattle.predictive.proofs.Tests.{and-both, or-l, or-r}
 use Rattle.aadl.specs.Bytes.{run, run-end, not-lf}
 use Rattle.aadl.specs.Utf8.{table-3-7, sequence, ill-formed-after, ill-formed}
-use Rattle.runs.specs.Classes.{has-high}
+use Rattle.runs.specs.Classes.{any, sought, unsought}
+
+-- TESTS OVER A PART ----------------------------------------------------------------------------------------------------
+
+module _ (p : ℕ → Bool) (bs : List ℕ) (i : ℕ) (f : Bool) where
+  pub any-more : i < length bs → (f || any p (drop i bs)) ≡ ((f || p (getD bs i 0)) || any p (drop (i + 1) bs))
+  any-more h = rw (drop-cons bs i 0 h, add-one) (sym (or-assoc f (p (getD bs i 0)) (any p (drop (suc i) bs))))
+
+  pub any-end : length bs ≤ i → (f || any p (drop i bs)) ≡ f
+  any-end h = rw (drop-of-length-le bs h) (or-false f)
+
+-- SKIPPING -------------------------------------------------------------------------------------------------------------
+
+module _ (p : ℕ → Bool) where
+  -- none among the first n
+  none-run : (bs : List ℕ) (n : ℕ) → n ≤ length bs → any p (take n bs) ≡ false → run (λ b. not (p b)) bs ≡ n + run (λ b. not (p b)) (drop n bs)
+  unfolding run
+  none-run bs zero h e = sym (zero-add (run (λ b. not (p b)) bs))
+  none-run [] (suc n) h e = absurd (not-suc-le-zero h)
+  none-run (b ∷ bs) (suc n) h e =
+      rw (or-l (p b) (any p (take n bs)) e)
+      (ap suc (none-run bs n (le-of-suc-le-suc h) (or-r (p b) (any p (take n bs)) e)) ∙ sym (suc-add n (run (λ b. not (p b)) (drop n bs))))
+
+  -- none among the n from place i on
+  pub none-skip : (bs : List ℕ) (i n : ℕ) → i + n ≤ length bs → any p (take n (drop i bs)) ≡ false → run-end (λ b. not (p b)) bs i ≡ run-end (λ b. not (p b)) bs (i + n)
+  unfolding run-end
+  none-skip bs i n h e =
+      ap (λ (k : ℕ). i + k) (none-run (drop i bs) n (omega (arith, length-drop i bs)) e ∙ ap (λ (l : List ℕ). n + run (λ b. not (p b)) l) (drop-drop n i bs))
+      ∙ sym (add-assoc i n (run (λ b. not (p b)) (drop (i + n) bs)))
+
+-- RANGES ---------------------------------------------------------------------------------------------------------------
+
+-- 255 bounds no byte
+no-bound : (most b : ℕ) (t : Bool) → eqb most 255 ≡ t → b < 256 → leb b most ≡ (t || leb b most)
+no-bound most b true e h = ap (leb b) (eqb-true most 255 e) ∙ le-leb b 255 (le-of-suc-le-suc h)
+no-bound most b false e h = refl
+
+pub byte-sought : (least most b : ℕ) → b < 256 → (leb least b && leb b most) ≡ sought least most b
+byte-sought least most b h = ap (λ (t : Bool). leb least b && t) (no-bound most b (eqb most 255) refl h)
+
+not-both : (s t : Bool) → (s ≡ true → t ≡ true → ⊥) → (s && t) ≡ false
+not-both true true f = absurd (f refl refl)
+not-both true false f = refl
+not-both false t f = refl
+
+-- a range of one
+one-between : (k b : ℕ) (t : Bool) → eqb b k ≡ t → (leb k b && leb b k) ≡ t
+one-between k b true e = and-both (leb k b) (leb b k) (le-leb k b (omega (arith, eqb-true b k e))) (le-leb b k (omega (arith, eqb-true b k e)))
+one-between k b false e = not-both (leb k b) (leb b k) (λ l m. eqb-false b k e (omega (arith, leb-true k b l, leb-true b k m)))
 
 -- LINES ----------------------------------------------------------------------------------------------------------------
 
-not-equal-back : (x k : ℕ) → eqb k x ≡ false → eqb x k ≡ false
-not-equal-back x k e = ne-eqb x k (λ q. eqb-false k x e (sym q))
-
--- no LF among the first n: the run goes on past them
-lf-run : (bs : List ℕ) (n : ℕ) → n ≤ length bs → has (take n bs) 10 ≡ false → run not-lf bs ≡ n + run not-lf (drop n bs)
+-- a line is a run of what is not 10 to 10
+lf-run : (bs : List ℕ) → run (unsought 10 10) bs ≡ run not-lf bs
 unfolding run
-lf-run bs zero h e = sym (zero-add (run not-lf bs))
-lf-run [] (suc n) h e = absurd (not-suc-le-zero h)
-lf-run (b ∷ bs) (suc n) h e =
-    rw (not-equal-back b 10 (or-l (eqb 10 b) (has (take n bs) 10) e))
-    (ap suc (lf-run bs n (le-of-suc-le-suc h) (or-r (eqb 10 b) (has (take n bs) 10) e)) ∙ sym (suc-add n (run not-lf (drop n bs))))
+lf-run [] = refl
+lf-run (b ∷ bs) = rw (one-between 10 b (eqb b 10) refl, lf-run bs) refl
+
+pub lf-run-end : (bs : List ℕ) (i : ℕ) → run-end (unsought 10 10) bs i ≡ run-end not-lf bs i
+unfolding run-end
+lf-run-end bs i = ap (λ (k : ℕ). i + k) (lf-run (drop i bs))
 
 -- WELL-FORMED TEXT -----------------------------------------------------------------------------------------------------
 
@@ -42,50 +87,24 @@ ascii-step : (b : ℕ) (bs : List ℕ) → leb 128 b ≡ false → ill-formed (b
 unfolding ill-formed-after
 ascii-step b bs e = rw (ascii-one b bs e) refl
 
--- no byte above 127 among the first n
-ascii-run : (bs : List ℕ) (n : ℕ) → n ≤ length bs → has-high (take n bs) ≡ false → ill-formed bs ≡ n + ill-formed (drop n bs)
-ascii-run bs zero h e = sym (zero-add (ill-formed bs))
-ascii-run [] (suc n) h e = absurd (not-suc-le-zero h)
-ascii-run (b ∷ bs) (suc n) h e =
-    ascii-step b bs (or-l (leb 128 b) (has-high (take n bs)) e)
-    ∙ ap suc (ascii-run bs n (le-of-suc-le-suc h) (or-r (leb 128 b) (has-high (take n bs)) e))
-    ∙ sym (suc-add n (ill-formed (drop n bs)))
+-- the run of bytes below 128 at the front is well-formed
+abbrev AsciiRun : List ℕ → Type 0
+AsciiRun bs = run (unsought 128 255) bs + ill-formed (drop (run (unsought 128 255) bs) bs) ≡ ill-formed bs
 
--- TESTS OVER A PART ----------------------------------------------------------------------------------------------------
+ascii-more : (b : ℕ) (bs : List ℕ) (t : Bool) → leb 128 b ≡ t → AsciiRun bs → AsciiRun (b ∷ bs)
+unfolding run
+ascii-more b bs true e h = rw e (zero-add (ill-formed (b ∷ bs)))
+ascii-more b bs false e h =
+    let k = run (unsought 128 255) bs in
+    rw e (suc-add k (ill-formed (drop k bs)) ∙ ap suc h ∙ sym (ascii-step b bs e))
 
-module _ (bs : List ℕ) (i : ℕ) (f : Bool) where
-  pub high-more : i < length bs → (f || has-high (drop i bs)) ≡ ((f || leb 128 (getD bs i 0)) || has-high (drop (i + 1) bs))
-  high-more h = rw (drop-cons bs i 0 h, add-one) (sym (or-assoc f (leb 128 (getD bs i 0)) (has-high (drop (suc i) bs))))
+ascii-run : (bs : List ℕ) → AsciiRun bs
+unfolding run
+ascii-run [] = zero-add (ill-formed [])
+ascii-run (b ∷ bs) = ascii-more b bs (leb 128 b) refl (ascii-run bs)
 
-  pub high-end : length bs ≤ i → (f || has-high (drop i bs)) ≡ f
-  high-end h = rw (drop-of-length-le bs h) (or-false f)
-
-  pub has-more : (x : ℕ) → i < length bs → (f || has (drop i bs) x) ≡ ((f || eqb x (getD bs i 0)) || has (drop (i + 1) bs) x)
-  has-more x h = rw (drop-cons bs i 0 h, add-one) (sym (or-assoc f (eqb x (getD bs i 0)) (has (drop (suc i) bs) x)))
-
-  pub has-end : (x : ℕ) → length bs ≤ i → (f || has (drop i bs) x) ≡ f
-  has-end x h = rw (drop-of-length-le bs h) (or-false f)
-
--- SKIPPING -------------------------------------------------------------------------------------------------------------
-
-module _ (bs : List ℕ) (i n : ℕ) (h : i + n ≤ length bs) where
-  within-drop : n ≤ length (drop i bs)
-  within-drop = omega (arith, length-drop i bs)
-
-  pub lf-skip : has (take n (drop i bs)) 10 ≡ false → run-end not-lf bs i ≡ run-end not-lf bs (i + n)
-  unfolding run-end
-  lf-skip e =
-      ap (λ (k : ℕ). i + k) (lf-run (drop i bs) n within-drop e ∙ ap (λ (l : List ℕ). n + run not-lf l) (drop-drop n i bs))
-      ∙ sym (add-assoc i n (run not-lf (drop (i + n) bs)))
-
-  pub ascii-skip : has-high (take n (drop i bs)) ≡ false → i + ill-formed (drop i bs) ≡ (i + n) + ill-formed (drop (i + n) bs)
-  ascii-skip e =
-      ap (λ (k : ℕ). i + k) (ascii-run (drop i bs) n within-drop e ∙ ap (λ (l : List ℕ). n + ill-formed l) (drop-drop n i bs))
-      ∙ sym (add-assoc i n (ill-formed (drop (i + n) bs)))
-
--- one byte below 128
-pub ascii-next : (bs : List ℕ) (i : ℕ) → i < length bs → getD bs i 0 < 128 → i + ill-formed (drop i bs) ≡ (i + 1) + ill-formed (drop (i + 1) bs)
-ascii-next bs i h l =
-    ap (λ (k : ℕ). i + k)
-    (ap (λ (l : List ℕ). ill-formed l) (drop-cons bs i 0 h) ∙ ascii-step (getD bs i 0) (drop (suc i) bs) (lt-leb 128 (getD bs i 0) l))
-    ∙ rw add-one (add-suc i (ill-formed (drop (suc i) bs)) ∙ sym (suc-add i (ill-formed (drop (suc i) bs))))
+pub ascii-run-end : (bs : List ℕ) (i : ℕ) → run-end (unsought 128 255) bs i + ill-formed (drop (run-end (unsought 128 255) bs i) bs) ≡ i + ill-formed (drop i bs)
+unfolding run-end
+ascii-run-end bs i =
+    let k = run (unsought 128 255) (drop i bs) in
+    rw (sym (drop-drop k i bs)) (add-assoc i k (ill-formed (drop k (drop i bs))) ∙ ap (λ (n : ℕ). i + n) (ascii-run (drop i bs)))

@@ -1,14 +1,16 @@
--- The table of byte classes, as a function of aadl's classes, and bytes above ASCII. Assumes nothing.
+-- The table of byte classes, as a function of aadl's classes, and bytes of a range. Assumes nothing.
 use Prim.Native.Nat.{ℕ, zero, suc}
 use Prim.Native.String.{String}
 use mathlib.Core.Bool.{Bool, true, false, not, cond, _&&_, _||_}
 use mathlib.Core.List.{List, [], _∷_}
 use lib.ListN.{length, take}
-use lib.Dec.{leb}
+use lib.Dec.{leb, eqb}
 use Rattle.predictive.specs.Grammar.{stand}
 use Rattle.aadl.specs.declared.Token.{Token}
 use Rattle.aadl.specs.Words.{bytes}
-use Rattle.aadl.specs.Bytes.{is-whitespace, is-ident-start, is-digit}
+use Rattle.aadl.specs.Bytes.{is-whitespace, is-ident-start, is-ident-continue, is-digit}
+use Rattle.runs.specs.declared.Run.{Run}
+use Rattle.runs.specs.declared.Run.the-variants.{Word, White}
 use Rattle.aadl.specs.Tokens.{marks, longest-mark}
 
 -- The values of a function at n numbers, from k on.
@@ -32,6 +34,18 @@ class-of b = cond (is-whitespace b) 1 (cond (is-ident-start b) 61 (cond (is-digi
 unfoldable pub class-table : List ℕ
 class-table = tabled class-of 0 256
 
-abbrev pub has-high : List ℕ → Bool
-has-high [] = false
-has-high (b ∷ bs) = leb 128 b || has-high bs
+-- The bytes of each run.
+abbrev pub in-run : Run → ℕ → Bool
+in-run Word b = is-ident-continue b
+in-run White b = is-whitespace b
+
+abbrev pub any : (ℕ → Bool) → List ℕ → Bool
+any p [] = false
+any p (b ∷ bs) = p b || any p bs
+
+-- From least to most; 255 is no bound, since no byte is above it.
+abbrev pub sought : (least most : ℕ) → ℕ → Bool
+sought least most b = leb least b && (eqb most 255 || leb b most)
+
+abbrev pub unsought : (least most : ℕ) → ℕ → Bool
+unsought least most b = not (sought least most b)

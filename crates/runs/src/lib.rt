@@ -6,10 +6,9 @@ ghost use mathlib.Core.Path.{_≡_};
 ghost use mathlib.Core.Bool.{Bool, true, false};
 ghost use Prim.Native.Nat.{ℕ, _+_, _≤_, _<_};
 ghost use lib.ListN.{length, drop};
-ghost use Rattle.predictive.specs.Grammar.{has};
 ghost use Rattle.aadl.specs.Bytes.{is-whitespace, is-ident-continue, not-lf, run-end};
 ghost use Rattle.aadl.specs.Utf8.{ill-formed};
-ghost use Rattle.runs.specs.Classes.{class-table, has-high};
+ghost use Rattle.runs.specs.Classes.{class-table, in-run, any, sought, unsought};
 
 // Whitespace 1, digits 60, letters and `_` 61, a mark that no other mark begins with its kind (5 to 27), any other byte 0.
 pub const CLASSES: [u8; 256] = [
@@ -271,48 +270,45 @@ pub const CLASSES: [u8; 256] = [
     0,
 ];
 
-pub fn word_byte(b: u8, classes: &[u8; 256]) -> bool
-    requires { ⌜ now classes ≡ class-table ⌝ }
-    ensures { λ r. ⌜ r ≡ is-ident-continue b ⌝ }
-{
-    60 <= classes[wide(b)]
+// The runs that are found by the table.
+enum Run {
+    Word,
+    White,
 }
 
-pub fn white_byte(b: u8, classes: &[u8; 256]) -> bool
+// Whether a byte goes on with a run.
+fn goes_on(b: u8, run: Run, classes: &[u8; 256]) -> bool
     requires { ⌜ now classes ≡ class-table ⌝ }
-    ensures { λ r. ⌜ r ≡ is-whitespace b ⌝ }
+    ensures { λ r. ⌜ r ≡ in-run run b ⌝ }
 {
-    classes[wide(b)] == 1
+    let k = classes[wide(b)];
+    match run {
+        Run::Word => 60 <= k,
+        Run::White => k == 1,
+    }
 }
 
-// The end of the run of letters, digits and `_` that begins at a place, four bytes at a time.
-pub fn word_end(s: &[u8], from: usize, classes: &[u8; 256]) -> usize
+// The end of the run that begins at a place.
+fn end_of(s: &[u8], from: usize, run: Run, classes: &[u8; 256]) -> usize
     requires { ⌜ (from ≤ length (now s)) × (now classes ≡ class-table) ⌝ }
-    ensures { λ r. ⌜ (r ≡ run-end is-ident-continue (now (s .entry)) from) × (r ≤ length (now (s .entry))) ⌝ }
+    ensures { λ r. ⌜ (r ≡ run-end (in-run run) (now (s .entry)) from) × (r ≤ length (now (s .entry))) ⌝ }
 {
     let mut i = from;
-    while i + 4 <= s.len() {
-        if !word_byte(s[i], classes) {
-            return i;
-        }
-        if !word_byte(s[i + 1], classes) {
-            return i + 1;
-        }
-        if !word_byte(s[i + 2], classes) {
-            return i + 2;
-        }
-        if !word_byte(s[i + 3], classes) {
-            return i + 3;
-        }
-        i += 4;
-    }
     while i < s.len() {
-        if !word_byte(s[i], classes) {
+        if !goes_on(s[i], run, classes) {
             return i;
         }
         i += 1;
     }
     i
+}
+
+// The end of the run of letters, digits and `_` that begins at a place.
+pub fn word_end(s: &[u8], from: usize, classes: &[u8; 256]) -> usize
+    requires { ⌜ (from ≤ length (now s)) × (now classes ≡ class-table) ⌝ }
+    ensures { λ r. ⌜ (r ≡ run-end is-ident-continue (now (s .entry)) from) × (r ≤ length (now (s .entry))) ⌝ }
+{
+    end_of(s, from, Run::Word, classes)
 }
 
 // The end of the whitespace that begins at a place.
@@ -320,27 +316,57 @@ pub fn white_end(s: &[u8], from: usize, classes: &[u8; 256]) -> usize
     requires { ⌜ (from ≤ length (now s)) × (now classes ≡ class-table) ⌝ }
     ensures { λ r. ⌜ (r ≡ run-end is-whitespace (now (s .entry)) from) × (r ≤ length (now (s .entry))) ⌝ }
 {
-    let mut i = from;
+    end_of(s, from, Run::White, classes)
+}
+
+// Whether a byte is one of a range.
+fn between(b: u8, least: u8, most: u8) -> bool
+    ensures { λ r. ⌜ r ≡ sought least most b ⌝ }
+{
+    (least <= b) & (b <= most)
+}
+
+// Whether a byte of a range stands in a part: no early exit, so that it is done sixteen at a time.
+fn any_between(s: &[u8], least: u8, most: u8) -> bool
+    ensures { λ r. ⌜ r ≡ any (sought least most) (now (s .entry)) ⌝ }
+{
+    let mut found = false;
+    let mut i = 0;
     while i < s.len() {
-        if !white_byte(s[i], classes) {
+        found = found | between(s[i], least, most);
+        i += 1;
+    }
+    found
+}
+
+// Past chunks of bytes in which none of a range stands.
+fn skip_chunks(s: &[u8], from: usize, least: u8, most: u8) -> usize
+    requires { ⌜ from ≤ length (now s) ⌝ }
+    ensures { λ r. ⌜ (run-end (unsought least most) (now (s .entry)) r ≡ run-end (unsought least most) (now (s .entry)) from) × (r ≤ length (now (s .entry))) ⌝ }
+{
+    let mut i = from;
+    while i + 16 <= s.len() {
+        if any_between(&s[i..i + 16], least, most) {
+            return i;
+        }
+        i += 16;
+    }
+    i
+}
+
+// The next byte of a range from a place on, or the length.
+fn next_between(s: &[u8], from: usize, least: u8, most: u8) -> usize
+    requires { ⌜ from ≤ length (now s) ⌝ }
+    ensures { λ r. ⌜ (r ≡ run-end (unsought least most) (now (s .entry)) from) × (r ≤ length (now (s .entry))) ⌝ }
+{
+    let mut i = skip_chunks(s, from, least, most);
+    while i < s.len() {
+        if between(s[i], least, most) {
             return i;
         }
         i += 1;
     }
     i
-}
-
-// Whether a byte stands in a part: no early exit, so that it is done sixteen at a time.
-pub fn has_byte(s: &[u8], b: u8) -> bool
-    ensures { λ r. ⌜ r ≡ has (now (s .entry)) b ⌝ }
-{
-    let mut found = false;
-    let mut i = 0;
-    while i < s.len() {
-        found = found | (b == s[i]);
-        i += 1;
-    }
-    found
 }
 
 // The next LF from a place on, or the length.
@@ -348,52 +374,13 @@ pub fn line_end(s: &[u8], from: usize) -> usize
     requires { ⌜ from ≤ length (now s) ⌝ }
     ensures { λ r. ⌜ (r ≡ run-end not-lf (now (s .entry)) from) × (r ≤ length (now (s .entry))) ⌝ }
 {
-    let mut i = from;
-    while i + 16 <= s.len() {
-        if has_byte(&s[i..i + 16], 10) {
-            break;
-        }
-        i += 16;
-    }
-    while i < s.len() {
-        if s[i] == 10 {
-            return i;
-        }
-        i += 1;
-    }
-    i
+    next_between(s, from, 10, 10)
 }
 
-// Whether a byte of 128 or more stands in a part.
-pub fn any_high(s: &[u8]) -> bool
-    ensures { λ r. ⌜ r ≡ has-high (now (s .entry)) ⌝ }
-{
-    let mut found = false;
-    let mut i = 0;
-    while i < s.len() {
-        found = found | (128 <= s[i]);
-        i += 1;
-    }
-    found
-}
-
-// Past the bytes below 128, thirty-two at a time.
+// Past the bytes below 128.
 pub fn skip_ascii(s: &[u8], from: usize) -> usize
     requires { ⌜ from ≤ length (now s) ⌝ }
     ensures { λ r. ⌜ (from ≤ r) × (r ≤ length (now (s .entry))) × (r + ill-formed (drop r (now (s .entry))) ≡ from + ill-formed (drop from (now (s .entry)))) ⌝ }
 {
-    let mut i = from;
-    while i + 32 <= s.len() {
-        if any_high(&s[i..i + 32]) {
-            break;
-        }
-        i += 32;
-    }
-    while i < s.len() {
-        if 128 <= s[i] {
-            break;
-        }
-        i += 1;
-    }
-    i
+    next_between(s, from, 128, 255)
 }

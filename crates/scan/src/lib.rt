@@ -53,21 +53,21 @@ ghost use Rattle.aadl.specs.Utf8.{_to_, fits, sequence};
 ghost use Rattle.scan.specs.Inner.{number-token, single, longest};
 
 // The length of the whitespace at the front.
-pub fn scan_whitespace(s: &[u8]) -> usize
+fn scan_whitespace(s: &[u8]) -> usize
     ensures { λ r. ⌜ r ≡ run is-whitespace (now (s .entry)) ⌝ }
 {
     take_while(s, 0, Class::Whitespace)
 }
 
 // The length up to the end of the line: what a comment takes.
-pub fn scan_comment(s: &[u8]) -> usize
+fn scan_comment(s: &[u8]) -> usize
     ensures { λ r. ⌜ r ≡ run not-lf (now (s .entry)) ⌝ }
 {
     take_while(s, 0, Class::NotLf)
 }
 
 // The string whose opening quote is the first byte.
-pub fn scan_string(s: &[u8]) -> Quoted
+fn scan_string(s: &[u8]) -> Quoted
     ensures { λ r. ⌜ r ≡ string-of (now (s .entry)) ⌝ }
 {
     let mut i = 1;
@@ -91,7 +91,7 @@ pub fn scan_string(s: &[u8]) -> Quoted
 }
 
 // Where the exponent that may stand at a place ends.
-pub fn exponent(s: &[u8], i: usize) -> usize
+fn exponent(s: &[u8], i: usize) -> usize
     ensures { λ r. ⌜ r ≡ exponent-end (now (s .entry)) i ⌝ }
 {
     if at(s, i, Class::Exponent) {
@@ -104,7 +104,7 @@ pub fn exponent(s: &[u8], i: usize) -> usize
 }
 
 // Whether d digits at the front are just `0`, with a C-style radix letter and a digit of that radix after it.
-pub fn is_c_style(s: &[u8], d: usize) -> bool
+fn is_c_style(s: &[u8], d: usize) -> bool
     ensures { λ r. ⌜ r ≡ is-c-style (now (s .entry)) d ⌝ }
 {
     if d != 1 {
@@ -119,7 +119,7 @@ pub fn is_c_style(s: &[u8], d: usize) -> bool
 }
 
 // Whether a byte stands anywhere in a text.
-pub fn contains(s: &[u8], b: u8) -> bool
+fn contains(s: &[u8], b: u8) -> bool
     ensures { λ r. ⌜ r ≡ has (now (s .entry)) b ⌝ }
 {
     let mut i = 0;
@@ -133,7 +133,7 @@ pub fn contains(s: &[u8], b: u8) -> bool
 }
 
 // A number with a base, whose inner digits begin at a place.
-pub fn scan_based(s: &[u8], i: usize) -> Token
+fn scan_based(s: &[u8], i: usize) -> Token
     requires { ⌜ i ≤ length (now s) ⌝ }
     ensures { λ r. ⌜ r ≡ number-token (based (now (s .entry)) i) ⌝ }
 {
@@ -156,7 +156,7 @@ pub fn scan_based(s: &[u8], i: usize) -> Token
 }
 
 // A number that begins with d decimal digits: the first case that fits.
-pub fn scan_number_from(s: &[u8], d: usize) -> Token
+fn scan_number_from(s: &[u8], d: usize) -> Token
     requires { ⌜ d ≤ length (now s) ⌝ }
     ensures { λ r. ⌜ r ≡ number-token (number-from (now (s .entry)) d) ⌝ }
 {
@@ -188,14 +188,14 @@ pub fn scan_number_from(s: &[u8], d: usize) -> Token
 }
 
 // The number at the front.
-pub fn scan_number(s: &[u8]) -> Token
+fn scan_number(s: &[u8]) -> Token
     ensures { λ r. ⌜ r ≡ number-token (number-of (now (s .entry))) ⌝ }
 {
     scan_number_from(s, take_while(s, 0, Class::Digit))
 }
 
 // The word at the front: a keyword, or an identifier.
-pub fn scan_ident_or_keyword(s: &[u8]) -> Token
+fn scan_ident_or_keyword(s: &[u8]) -> Token
     ensures { λ r. ⌜ r ≡ word-of (now (s .entry)) ⌝ }
 {
     let n = take_while(s, 0, Class::Word);
@@ -206,7 +206,7 @@ pub fn scan_ident_or_keyword(s: &[u8]) -> Token
 }
 
 // Whether a row of table 3-7 with two ranges fits: the first byte from low to high, the second from least to most.
-pub fn fits_two(s: &[u8], low: u8, high: u8, least: u8, most: u8) -> bool
+fn fits_two(s: &[u8], low: u8, high: u8, least: u8, most: u8) -> bool
     ensures { λ r. ⌜ r ≡ fits (low to high ∷ least to most ∷ []) (now (s .entry)) ⌝ }
 {
     let a = peek(s, 0);
@@ -215,7 +215,7 @@ pub fn fits_two(s: &[u8], low: u8, high: u8, least: u8, most: u8) -> bool
 }
 
 // Whether a row with three ranges fits, the last one that of every later byte.
-pub fn fits_three(s: &[u8], low: u8, high: u8, least: u8, most: u8) -> bool
+fn fits_three(s: &[u8], low: u8, high: u8, least: u8, most: u8) -> bool
     ensures { λ r. ⌜ r ≡ fits (low to high ∷ least to most ∷ 0x80 to 0xBF ∷ []) (now (s .entry)) ⌝ }
 {
     let b = peek(s, 2);
@@ -223,7 +223,7 @@ pub fn fits_three(s: &[u8], low: u8, high: u8, least: u8, most: u8) -> bool
 }
 
 // Whether a row with four ranges fits, the last two those of every later byte.
-pub fn fits_four(s: &[u8], low: u8, high: u8, least: u8, most: u8) -> bool
+fn fits_four(s: &[u8], low: u8, high: u8, least: u8, most: u8) -> bool
     ensures { λ r. ⌜ r ≡ fits (low to high ∷ least to most ∷ 0x80 to 0xBF ∷ 0x80 to 0xBF ∷ []) (now (s .entry)) ⌝ }
 {
     let b = peek(s, 3);
@@ -257,7 +257,7 @@ pub fn scan_sequence(s: &[u8]) -> usize
 }
 
 // The kind of the mark that is one byte, or 0.
-pub fn mark_one(a: u8) -> u32
+fn mark_one(a: u8) -> u32
     ensures { λ r. ⌜ single r ≡ longest (a ∷ []) ⌝ }
 {
     match a {
@@ -281,7 +281,7 @@ pub fn mark_one(a: u8) -> u32
 }
 
 // The longest mark that two bytes begin with; kind 0 and length 0 for none, here and below.
-pub fn mark_two(a: u8, b: u8) -> Token
+fn mark_two(a: u8, b: u8) -> Token
     ensures { λ r. ⌜ r ≡ longest (a ∷ b ∷ []) ⌝ }
 {
     if (a == b'-') & (b == b'>') {
@@ -322,7 +322,7 @@ pub fn mark_two(a: u8, b: u8) -> Token
 }
 
 // The longest mark that three bytes begin with.
-pub fn mark_three(a: u8, b: u8, c: u8) -> Token
+fn mark_three(a: u8, b: u8, c: u8) -> Token
     ensures { λ r. ⌜ r ≡ longest (a ∷ b ∷ c ∷ []) ⌝ }
 {
     if (a == b'{') & (b == b'*') & (c == b'*') {
@@ -359,7 +359,7 @@ pub fn mark_three(a: u8, b: u8, c: u8) -> Token
 }
 
 // The longest mark at the front, or one character as an error; a byte that begins no character is one by itself.
-pub fn scan_mark(s: &[u8]) -> Token
+fn scan_mark(s: &[u8]) -> Token
     ensures { λ r. ⌜ r ≡ mark-of (now (s .entry)) ⌝ }
 {
     let mark = mark_three(peek(s, 0), peek(s, 1), peek(s, 2));
