@@ -6,7 +6,7 @@ use mathlib.Core.Path.{_≡_, refl, sym, ap, _∙_}
 use mathlib.Core.Bool.{Bool, true, false, not, cond, _&&_, _||_}
 use mathlib.Core.List.{List, [], _∷_}
 use lib.ListN.{length, getD, take, drop}
-use lib.Seq.{drop-cons}
+use lib.Seq.{drop-cons, getD-drop}
 use lib.Dec.{eqb, leb, ltb}
 use borrow.Author.Tests.{eq-eqb, eqb-true, not-true, le-leb, lt-ltb}
 use Rattle.predictive.proofs.Tests.{never, and-l, and-r, and-both}
@@ -71,11 +71,19 @@ longest-alone k (m ∷ ms) b bs e =
         go true q = never (sym q ∙ le-leb 2 (suc (suc (length ks))) (omega arith))
         go false q = refl
 
-pub comment-token : (bs : List ℕ) → (eqb (peek bs 0) 45 && eqb (peek bs 1) 45) ≡ true → token (# COMMENT) (run not-lf bs) ≡ token-of bs
+-- the first two bytes of what starts at a place, where c is the second
+pub first-two : (s : List ℕ) (i c x y : ℕ) → i < length s → c ≡ getD s (i + 1) 0 → (eqb (getD s i 0) x && eqb c y) ≡ true → (peek (drop i s) 0 ≡ x) × (peek (drop i s) 1 ≡ y)
+first-two s i c x y h e t =
+    let b = getD s i 0 in
+    let first : peek (drop i s) 0 ≡ b = ap (λ (bs : List ℕ). getD bs 0 0) (drop-cons s i 0 h) in
+    (first ∙ eqb-true b x (and-l (eqb b x) (eqb c y) t), getD-drop i s 1 0 ∙ sym e ∙ eqb-true c y (and-r (eqb b x) (eqb c y) t))
+
+pub comment-token : (bs : List ℕ) → peek bs 0 ≡ 45 → peek bs 1 ≡ 45 → token (# COMMENT) (run not-lf bs) ≡ token-of bs
 unfolding token-of
-comment-token bs e =
-    let w : is-whitespace (peek bs 0) ≡ false = ap is-whitespace (eqb-true (peek bs 0) 45 (and-l (eqb (peek bs 0) 45) (eqb (peek bs 1) 45) e)) in
-    rw (w, e) refl
+comment-token bs e f =
+    let w : is-whitespace (peek bs 0) ≡ false = ap is-whitespace e in
+    let d : (eqb (peek bs 0) 45 && eqb (peek bs 1) 45) ≡ true = λ i. eqb (e i) 45 && eqb (f i) 45 in
+    rw (w, d) refl
 
 -- a word that ends where its run does
 pub word-is : (s : List ℕ) (i e k : ℕ) → e ≡ run-end is-ident-continue s i → k ≡ kind-of-word (take (e - i) (drop i s)) → token k (e - i) ≡ word-of (drop i s)

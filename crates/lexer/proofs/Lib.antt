@@ -3,3 +3,4 @@ pub mod ClearLaws
 pub mod FillLaws
 pub mod SequenceLaws
 pub mod FirstByte
+pub mod StringLaws

@@ -4,7 +4,7 @@ use aadl::Answer;
 use aadl::Token;
 use classes::peek;
 use runs::CLASSES;
-use runs::line_end;
+use runs::next_byte;
 use runs::skip_ascii;
 use runs::white_end;
 use runs::word_end;
@@ -18,6 +18,7 @@ use syntax_kind::LENGTHS;
 use syntax_kind::LETTERS;
 use syntax_kind::SLOTS;
 use syntax_kind::STARTS;
+use syntax_kind::STRING_LIT;
 use syntax_kind::WHITESPACE;
 use syntax_kind::keyword;
 use syntax_kind::wide;
@@ -40,7 +41,45 @@ pub struct Filled {
     pub count: usize,
 }
 
-// The token that begins at a place: words, whitespace, comments and common marks by the lent tables, any other by the plain scanner.
+// The token that begins at a place: comments, `=>`, `::` and strings without a quote in them by their first bytes, any other by the
+// plain scanner.
+fn scan_other(s: &[u8], at: usize) -> Token
+    requires { ⌜ at < length (now s) ⌝ }
+    ensures { λ r. ⌜ r ≡ token-of (drop at (now (s .entry))) ⌝ }
+{
+    let b = s[at];
+    let c = peek(s, at + 1);
+    if (b == b'-') & (c == b'-') {
+        return Token {
+            kind: COMMENT,
+            len: next_byte(s, at, b'\n') - at,
+        };
+    }
+    if (b == b'=') & (c == b'>') {
+        return Token {
+            kind: FAT_ARROW,
+            len: 2,
+        };
+    }
+    if (b == b':') & (c == b':') {
+        return Token {
+            kind: COLON_COLON,
+            len: 2,
+        };
+    }
+    if b == b'"' {
+        let e = next_byte(s, at + 1, b'"');
+        if (e < s.len()) & !(peek(s, e + 1) == b'"') {
+            return Token {
+                kind: STRING_LIT,
+                len: e + 1 - at,
+            };
+        }
+    }
+    scan_token(&s[at..])
+}
+
+// The token that begins at a place: words, whitespace and marks that no other mark begins with by the lent tables.
 fn scan_at(
     s: &[u8],
     at: usize,
@@ -54,8 +93,7 @@ fn scan_at(
     requires { ⌜ (at < length (now s)) × (now classes ≡ class-table) × Lent (now letters) (now starts) (now lengths) (now kinds) (now slots) ⌝ }
     ensures { λ r. ⌜ r ≡ token-of (drop at (now (s .entry))) ⌝ }
 {
-    let b = s[at];
-    let k = classes[wide(b)];
+    let k = classes[wide(s[at])];
     if k == 61 {
         let e = word_end(s, at, classes);
         return Token {
@@ -75,26 +113,7 @@ fn scan_at(
             len: 1,
         };
     }
-    let c = peek(s, at + 1);
-    if (b == b'-') & (c == b'-') {
-        return Token {
-            kind: COMMENT,
-            len: line_end(s, at) - at,
-        };
-    }
-    if (b == b'=') & (c == b'>') {
-        return Token {
-            kind: FAT_ARROW,
-            len: 2,
-        };
-    }
-    if (b == b':') & (c == b':') {
-        return Token {
-            kind: COLON_COLON,
-            len: 2,
-        };
-    }
-    scan_token(&s[at..])
+    scan_other(s, at)
 }
 
 // Where the first ill-formed sequence starts, or the length.

@@ -1,5 +1,5 @@
--- Many bytes at a time: where none of the next n bytes is sought, a run of bytes that are not goes on over all of them. A line is a run
--- of bytes that are no LF, and bytes below 128 are well-formed one by one. By induction over the bytes. Assumes nothing.
+-- Many bytes at a time: where none of the next n bytes is sought, a run of bytes that are not goes on over all of them; and
+-- bytes below 128 are well-formed one by one. By induction over the bytes. Assumes nothing.
 use Prim.Native.Nat.{ℕ, zero, suc, _+_, _≤_, _<_}
 use native.Mathlib.Nat.{zero-add, suc-add, add-assoc, le-of-suc-le-suc, not-suc-le-zero}
 use native.Mathlib.Numerals.{add-one}
@@ -10,11 +10,11 @@ use mathlib.Core.List.{List, [], _∷_}
 use lib.ListN.{length, getD, take, drop, drop-of-length-le, length-drop}
 use lib.Seq.{drop-cons, drop-drop}
 use lib.Dec.{leb, eqb}
-use borrow.Author.Tests.{leb-false, leb-true, le-leb, eqb-true, eqb-false}
+use borrow.Author.Tests.{leb-false, leb-true, le-leb, ne-eqb, eqb-true, eqb-false}
 use Rattle.predictive.proofs.Tests.{and-both, or-l, or-r}
-use Rattle.aadl.specs.Bytes.{run, run-end, not-lf}
+use Rattle.aadl.specs.Bytes.{run, run-end}
 use Rattle.aadl.specs.Utf8.{table-3-7, sequence, ill-formed-after, ill-formed}
-use Rattle.runs.specs.Classes.{any, sought, unsought}
+use Rattle.runs.specs.Classes.{any, sought, unsought, other-than}
 
 -- TESTS OVER A PART ----------------------------------------------------------------------------------------------------
 
@@ -64,17 +64,15 @@ one-between : (k b : ℕ) (t : Bool) → eqb b k ≡ t → (leb k b && leb b k) 
 one-between k b true e = and-both (leb k b) (leb b k) (le-leb k b (omega (arith, eqb-true b k e))) (le-leb b k (omega (arith, eqb-true b k e)))
 one-between k b false e = not-both (leb k b) (leb b k) (λ l m. eqb-false b k e (omega (arith, leb-true k b l, leb-true b k m)))
 
--- LINES ----------------------------------------------------------------------------------------------------------------
-
--- a line is a run of what is not 10 to 10
-lf-run : (bs : List ℕ) → run (unsought 10 10) bs ≡ run not-lf bs
+-- a run of what is not x to x
+other-run : (x : ℕ) → eqb x 255 ≡ false → (bs : List ℕ) → run (unsought x x) bs ≡ run (other-than x) bs
 unfolding run
-lf-run [] = refl
-lf-run (b ∷ bs) = rw (one-between 10 b (eqb b 10) refl, lf-run bs) refl
+other-run x u [] = refl
+other-run x u (b ∷ bs) = rw (u, one-between x b (eqb b x) refl, other-run x u bs) refl
 
-pub lf-run-end : (bs : List ℕ) (i : ℕ) → run-end (unsought 10 10) bs i ≡ run-end not-lf bs i
+pub other-run-end : (x : ℕ) → x < 255 → (bs : List ℕ) (i : ℕ) → run-end (unsought x x) bs i ≡ run-end (other-than x) bs i
 unfolding run-end
-lf-run-end bs i = ap (λ (k : ℕ). i + k) (lf-run (drop i bs))
+other-run-end x h bs i = ap (λ (k : ℕ). i + k) (other-run x (ne-eqb x 255 (λ e. absurd (omega (arith, e)))) (drop i bs))
 
 -- WELL-FORMED TEXT -----------------------------------------------------------------------------------------------------
 

@@ -49,3 +49,7 @@ sought least most b = leb least b && (eqb most 255 || leb b most)
 
 abbrev pub unsought : (least most : ℕ) → ℕ → Bool
 unsought least most b = not (sought least most b)
+
+-- Every byte but one; `not-lf` is `other-than 10`.
+abbrev pub other-than : (x : ℕ) → ℕ → Bool
+other-than x b = not (eqb b x)

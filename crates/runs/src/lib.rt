@@ -6,9 +6,9 @@ ghost use mathlib.Core.Path.{_≡_};
 ghost use mathlib.Core.Bool.{Bool, true, false};
 ghost use Prim.Native.Nat.{ℕ, _+_, _≤_, _<_};
 ghost use lib.ListN.{length, drop};
-ghost use Rattle.aadl.specs.Bytes.{is-whitespace, is-ident-continue, not-lf, run-end};
+ghost use Rattle.aadl.specs.Bytes.{is-whitespace, is-ident-continue, run-end};
 ghost use Rattle.aadl.specs.Utf8.{ill-formed};
-ghost use Rattle.runs.specs.Classes.{class-table, in-run, any, sought, unsought};
+ghost use Rattle.runs.specs.Classes.{class-table, in-run, any, sought, unsought, other-than};
 
 // Whitespace 1, digits 60, letters and `_` 61, a mark that no other mark begins with its kind (5 to 27), any other byte 0.
 pub const CLASSES: [u8; 256] = [
@@ -369,12 +369,12 @@ fn next_between(s: &[u8], from: usize, least: u8, most: u8) -> usize
     i
 }
 
-// The next LF from a place on, or the length.
-pub fn line_end(s: &[u8], from: usize) -> usize
-    requires { ⌜ from ≤ length (now s) ⌝ }
-    ensures { λ r. ⌜ (r ≡ run-end not-lf (now (s .entry)) from) × (r ≤ length (now (s .entry))) ⌝ }
+// The next place of a byte from a place on, or the length.
+pub fn next_byte(s: &[u8], from: usize, x: u8) -> usize
+    requires { ⌜ (from ≤ length (now s)) × (x < 255) ⌝ }
+    ensures { λ r. ⌜ (r ≡ run-end (other-than x) (now (s .entry)) from) × (r ≤ length (now (s .entry))) ⌝ }
 {
-    next_between(s, from, 10, 10)
+    next_between(s, from, x, x)
 }
 
 // Past the bytes below 128.
