@@ -1,19 +1,16 @@
 -- Filling words, one token at a turn (FillLaws). The tables lent are the constants, by computation.
-use Prim.Native.Nat.{ℕ, _≤_, _<_, _-_, _+_}
-use mathlib.Core.Path.{_≡_, refl, sym, ap, _∙_}
+use Prim.Native.Nat.{_-_}
+use mathlib.Core.Path.{refl}
 use native.Mathlib.Omega.{arith}
-use lib.ListN.{length, drop, take, length-drop, length-set}
+use lib.ListN.{length}
 use Rattle.aadl.specs.Words.{words, table}
 use Rattle.aadl.specs.Tokens.{marks}
-use Rattle.syntax_kind.specs.Tables.{candidate, Lent}
+use Rattle.syntax_kind.specs.Tables.{candidate}
 use Rattle.runs.specs.Classes.{class-table}
 use Rattle.lexer.proofs.FillLaws.{Filling, filling-starts, filling-more, filling-full, filling-ends, token-fits}
 use borrow.Author.Needs.{needs}
 use Rattle.lexer.proofs.fill.Statement.{statement}
 use Rattle.lexer.proofs.fill.Tie as tie
-use Rattle.lexer.proofs.fill.Reads as reads
-use Rattle.lexer.proofs.fill.Lts as lts
-use Rattle.lexer.proofs.scan_at.Reads as scan-at-reads
 
 abbrev Inv-loop : tie.InvT-loop
 Inv-loop s tokens₀ classes letters starts lengths kinds slots at₀ n₀ tokens at n = Filling s tokens₀ tokens at n
@@ -50,15 +47,6 @@ add-tokens c =
     let t = token-fits ((c .before .before .before .before .before .before .before .before .before .before .before .before .args) .s .now) ((c .before .before .before .before .before .before .before .before .before .loop) .at) ((c .scan-at) .result) (search needs) ((c .scan-at) .ensures) in
     omega arith
 
-mul-tokens-2 : tie.Need-mul-tokens-2 Inv-loop μ-loop
-mul-tokens-2 c = search needs
-
-slice-write-tokens : tie.Need-slice-write-tokens Inv-loop μ-loop
-slice-write-tokens c = search needs
-
-add-n : tie.Need-add-n Inv-loop μ-loop
-add-n c = search needs
-
 add-at : tie.Need-add-at Inv-loop μ-loop
 add-at c =
     let t = token-fits ((c .before .before .before .before .before .before .before .before .before .before .before .before .args) .s .now) ((c .before .before .before .before .before .before .before .before .before .loop) .at) ((c .scan-at) .result) (search needs) ((c .scan-at) .ensures) in
@@ -91,9 +79,9 @@ fill-spec =
     mul-tokens
     cast-tokens
     add-tokens
-    mul-tokens-2
-    slice-write-tokens
-    add-n
+    (λ c. search needs)
+    (λ c. search needs)
+    (λ c. search needs)
     add-at
     loop-less
     loop-again

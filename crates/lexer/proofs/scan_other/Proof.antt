@@ -1,12 +1,12 @@
 -- The token at a place by its first two bytes (FirstByte), a string by its next quote (StringLaws); the rest is the plain scanner's. Assumes
 -- nothing.
 use Prim.Native.Nat.{ℕ, _-_, _+_}
-use mathlib.Core.Path.{_≡_, sym, ap, _∙_}
+use mathlib.Core.Path.{sym, ap, _∙_}
 use mathlib.Core.Bool.{not}
 use native.Mathlib.Omega.{arith}
 use lib.ListN.{length}
 use lib.Dec.{eqb, ltb}
-use borrow.Author.Tests.{eqb-true, ltb-true, not-true}
+use borrow.Author.Tests.{ltb-true, not-true}
 use Rattle.predictive.proofs.Tests.{and-l, and-r}
 use Rattle.aadl.specs.Kinds.{#_, COMMENT}
 use Rattle.aadl.specs.Bytes.{not-lf}

@@ -1,7 +1,7 @@
 -- The answer is that of the first check whose case holds (aadl's AnswerLaws); a refusal clears the words, and else they are filled.
 use Prim.Native.Nat.{ℕ}
-use mathlib.Core.Path.{_≡_, refl, sym, ap, _∙_}
-use mathlib.Core.List.{List, []}
+use mathlib.Core.Path.{sym, ap, _∙_}
+use mathlib.Core.List.{[]}
 use lib.ListN.{length, replicate}
 use Rattle.aadl.specs.Limits.{base}
 use Rattle.aadl.specs.Tokens.{tokens}
@@ -11,17 +11,6 @@ use Rattle.lexer.proofs.FillLaws.{filled-over, filled-all, filled-place
 use borrow.Author.Needs.{needs}
 use Rattle.lexer.proofs.tokenize.Statement.{statement}
 use Rattle.lexer.proofs.tokenize.Tie as tie
-use Rattle.lexer.proofs.tokenize.Reads as reads
-use Rattle.lexer.proofs.tokenize.Lts as lts
-use Rattle.lexer.proofs.clear.Reads as clear-reads
-use Rattle.lexer.proofs.fill.Reads as fill-reads
-use Rattle.lexer.proofs.valid_up_to.Reads as valid-up-to-reads
-
-clear-requires : tie.Need-clear-requires
-clear-requires c κs = search needs
-
-same-length : tie.Need-same-length
-same-length c = search needs
 
 returns : tie.Need-returns
 returns c =
@@ -30,15 +19,6 @@ returns c =
     let a = too-long base xs (length old) [] (answered (length (tokens xs)) 0 0) ((c .before .before .before .before .if1) .taken) in
     (sym (tokens-answer-is base xs (length old) ∙ a), (c .before .before .clear) .ensures ∙ sym (left-refused 0 32768 (token-words xs) old))
 
-valid-up-to-requires : tie.Need-valid-up-to-requires
-valid-up-to-requires c κs = search needs
-
-clear-requires-2 : tie.Need-clear-requires-2
-clear-requires-2 c κs = search needs
-
-same-length-2 : tie.Need-same-length-2
-same-length-2 c = search needs
-
 returns-2 : tie.Need-returns-2
 returns-2 c =
     let xs = (c .before .before .before .before .before .before .before .before .before .args) .src .now in
@@ -46,15 +26,6 @@ returns-2 c =
     let v = (c .before .before .before .before .before .valid-up-to) .ensures in
     let a = not-utf8 base xs (length old) [] (answered (length (tokens xs)) 0 0) ((c .before .before .before .before .before .before .if1) .left) (λ q. (c .before .before .before .before .if2) .taken (v ∙ q)) in
     (ap (refused 2) v ∙ sym (tokens-answer-is base xs (length old) ∙ a), (c .before .before .clear2) .ensures ∙ sym (left-refused 1 ((c .before .before .before .before .before .valid-up-to) .result) (token-words xs) old))
-
-fill-requires : tie.Need-fill-requires
-fill-requires c κs = search needs
-
-clear-requires-3 : tie.Need-clear-requires-3
-clear-requires-3 c κs = search needs
-
-same-length-3 : tie.Need-same-length-3
-same-length-3 c = search needs
 
 returns-3 : tie.Need-returns-3
 returns-3 c =
@@ -67,9 +38,6 @@ returns-3 c =
       ap (refused 3) (filled-place xs (length old) f q) ∙ sym (tokens-answer-is base xs (length old) ∙ a),
       (c .before .before .clear3) .ensures ∙ ap (λ (k : ℕ). replicate k 0) ((c .before .before .before .before .before .before .before .fill) .kept .1 .0) ∙ sym (left-refused 2 (f .at) (token-words xs) old),
     )
-
-same-length-4 : tie.Need-same-length-4
-same-length-4 c = search needs
 
 returns-4 : tie.Need-returns-4
 returns-4 c =
@@ -88,16 +56,16 @@ pub tokenize-spec : {M : Type 1} → statement M
 tokenize-spec =
     tie.close
     (tie.spec
-    clear-requires
-    same-length
+    (λ c κs. search needs)
+    (λ c. search needs)
     returns
-    valid-up-to-requires
-    clear-requires-2
-    same-length-2
+    (λ c κs. search needs)
+    (λ c κs. search needs)
+    (λ c. search needs)
     returns-2
-    fill-requires
-    clear-requires-3
-    same-length-3
+    (λ c κs. search needs)
+    (λ c κs. search needs)
+    (λ c. search needs)
     returns-3
-    same-length-4
+    (λ c. search needs)
     returns-4)

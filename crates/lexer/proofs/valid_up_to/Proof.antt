@@ -1,18 +1,16 @@
-use Prim.Native.Nat.{ℕ, _≤_, _<_, _-_, _+_}
-use mathlib.Core.Path.{_≡_, refl, sym, ap, _∙_}
+-- One sequence above ASCII at a turn: the first ill-formed place of the rest, counted from `at`, is that of the text. The measure is what is
+-- left of the text. Assumes nothing.
+use Prim.Native.Nat.{_≤_, _-_, _+_}
+use mathlib.Core.Path.{_≡_, sym, ap, _∙_}
 use native.Mathlib.Omega.{arith}
 use native.Mathlib.Nat.{zero-add}
 use Rattle.aadl.specs.Utf8.{ill-formed, sequence}
 use Rattle.lexer.proofs.SequenceLaws.{ill-here, sequence-in, ill-next, rest}
 use Rattle.aadl.proofs.Utf8Laws.{ill-formed-none}
-use lib.ListN.{length, drop, take, length-drop}
+use lib.ListN.{length, drop, length-drop}
 use borrow.Author.Needs.{needs}
 use Rattle.lexer.proofs.valid_up_to.Statement.{statement}
 use Rattle.lexer.proofs.valid_up_to.Tie as tie
-use Rattle.lexer.proofs.valid_up_to.Reads as reads
-use Rattle.lexer.proofs.valid_up_to.Lts as lts
-use Rattle.runs.proofs.skip_ascii.Reads as skip-ascii-reads
-use Rattle.scan.proofs.scan_sequence.Reads as scan-sequence-reads
 
 abbrev Inv-loop : tie.InvT-loop
 Inv-loop s at₀ at = (at + ill-formed (drop at s) ≡ ill-formed s) × (at ≤ length s)
@@ -20,23 +18,8 @@ Inv-loop s at₀ at = (at + ill-formed (drop at s) ≡ ill-formed s) × (at ≤ 
 abbrev μ-loop : tie.MeasureT-loop
 μ-loop s at₀ at = length s - at
 
-skip-ascii-requires : tie.Need-skip-ascii-requires Inv-loop μ-loop
-skip-ascii-requires c κs = search needs
-
 loop-holds : tie.Need-loop-holds Inv-loop μ-loop
 loop-holds c = (c .skip-ascii .ensures .2 ∙ zero-add (ill-formed (c .before .before .args .s .now)), c .skip-ascii .ensures .1)
-
-sub-scan-sequence : tie.Need-sub-scan-sequence Inv-loop μ-loop
-sub-scan-sequence c = search needs
-
-part-scan-sequence-start : tie.Need-part-scan-sequence-start Inv-loop μ-loop
-part-scan-sequence-start c = search needs
-
-part-scan-sequence-end : tie.Need-part-scan-sequence-end Inv-loop μ-loop
-part-scan-sequence-end c = search needs
-
-scan-sequence-requires : tie.Need-scan-sequence-requires Inv-loop μ-loop
-scan-sequence-requires c κs = search needs
 
 returns : tie.Need-returns Inv-loop μ-loop
 returns c =
@@ -91,12 +74,12 @@ valid-up-to-spec =
     (tie.spec
     Inv-loop
     μ-loop
-    skip-ascii-requires
+    (λ c κs. search needs)
     loop-holds
-    sub-scan-sequence
-    part-scan-sequence-start
-    part-scan-sequence-end
-    scan-sequence-requires
+    (λ c. search needs)
+    (λ c. search needs)
+    (λ c. search needs)
+    (λ c κs. search needs)
     returns
     add-skip-ascii
     skip-ascii-requires-2

@@ -1,5 +1,4 @@
 -- The test of a byte against a range, where 255 is no bound since the byte is below 256. Assumes nothing.
-use Prim.Native.Nat.{_<_}
 use Rattle.runs.proofs.Chunks.{byte-sought}
 use borrow.Author.Needs.{needs}
 use Rattle.runs.proofs.between.Statement.{statement}

@@ -1,6 +1,6 @@
 -- What the lent table, which is the constant, says of the byte (ClassTable), by the run. Assumes nothing.
-use Prim.Native.Nat.{ℕ, _<_}
-use mathlib.Core.Path.{_≡_, sym, ap, _∙_}
+use Prim.Native.Nat.{_<_}
+use mathlib.Core.Path.{_≡_, _∙_}
 use lib.ListN.{getD}
 use lib.Dec.{leb, eqb}
 use Rattle.aadl.specs.Bytes.{is-ident-continue, is-whitespace}

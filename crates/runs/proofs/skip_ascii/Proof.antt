@@ -1,6 +1,6 @@
 -- The bytes up to the next of 128 or more are well-formed one by one. Assumes nothing.
 use Prim.Native.Nat.{ℕ, _+_}
-use mathlib.Core.Path.{_≡_, ap, _∙_}
+use mathlib.Core.Path.{ap, _∙_}
 use native.Mathlib.Omega.{arith}
 use lib.ListN.{drop}
 use Rattle.aadl.specs.Utf8.{ill-formed}
