@@ -1,10 +1,10 @@
--- `replay::put_words` is safe and ends: the output stays as long. Assumes nothing.
+-- `records::put_words` is safe and ends: the output stays as long. Assumes nothing.
 use Prim.Native.Nat.{_≤_, _-_}
 use borrow.Author.Needs.{needs}
 use lib.ListN.{length}
 use mathlib.Core.Path.{_≡_}
-use Rattle.replay.proofs.put_words.Statement.{statement}
-use Rattle.replay.proofs.put_words.Tie as tie
+use Rattle.records.proofs.put_words.Statement.{statement}
+use Rattle.records.proofs.put_words.Tie as tie
 
 abbrev Inv-loop : tie.InvT-loop
 Inv-loop out₀ from name words at₀ i₀ out at i = (i ≤ length words) × (length out ≡ length out₀)

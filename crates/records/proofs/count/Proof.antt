@@ -1,11 +1,11 @@
--- `replay::count` is safe and ends: the count never passes the index, nor the index the length. Assumes nothing.
+-- `records::count` is safe and ends: the count never passes the index, nor the index the length. Assumes nothing.
 use Prim.Native.Nat.{_≤_, _-_}
 use borrow.Author.Needs.{needs}
 use lib.ListN.{length}
 use native.Mathlib.Omega.{arith}
 use mathlib.Core.Logic.{⊎-elim}
-use Rattle.replay.proofs.count.Statement.{statement}
-use Rattle.replay.proofs.count.Tie as tie
+use Rattle.records.proofs.count.Statement.{statement}
+use Rattle.records.proofs.count.Tie as tie
 
 abbrev Inv-loop : tie.InvT-loop
 Inv-loop words value n₀ i₀ n i = (i ≤ length words) × (n ≤ i)

@@ -1,10 +1,10 @@
--- `replay::put_text` is safe and ends: the output stays as long. Assumes nothing.
+-- `records::put_text` is safe and ends: the output stays as long. Assumes nothing.
 use Prim.Native.Nat.{_≤_, _-_}
 use borrow.Author.Needs.{needs}
 use lib.ListN.{length}
 use mathlib.Core.Path.{_≡_}
-use Rattle.replay.proofs.put_text.Statement.{statement}
-use Rattle.replay.proofs.put_text.Tie as tie
+use Rattle.records.proofs.put_text.Statement.{statement}
+use Rattle.records.proofs.put_text.Tie as tie
 
 abbrev Inv-loop : tie.InvT-loop
 Inv-loop out₀ from text at₀ i₀ out at i = (i ≤ length text) × (length out ≡ length out₀)

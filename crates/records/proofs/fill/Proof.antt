@@ -1,12 +1,12 @@
--- `replay::fill` is safe and ends: the words stay as many. Assumes nothing.
+-- `records::fill` is safe and ends: the words stay as many. Assumes nothing.
 use Prim.Native.Nat.{_≤_, _-_}
 use borrow.Author.Needs.{needs}
 use lib.ListN.{length}
 use native.Mathlib.Omega.{arith}
 use lib.ListN.{length-set}
 use mathlib.Core.Path.{_≡_}
-use Rattle.replay.proofs.fill.Statement.{statement}
-use Rattle.replay.proofs.fill.Tie as tie
+use Rattle.records.proofs.fill.Statement.{statement}
+use Rattle.records.proofs.fill.Tie as tie
 
 abbrev Inv-loop : tie.InvT-loop
 Inv-loop words₀ i₀ words i = (i ≤ length words) × (length words ≡ length words₀)
