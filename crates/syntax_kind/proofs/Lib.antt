@@ -1,4 +1,1 @@
-pub mod Comparing
-pub mod Columns
-pub mod OneCandidate
 pub mod KindSets

@@ -5,7 +5,7 @@ use native.Mathlib.Omega.{arith}
 use lib.ListN.{length}
 use Rattle.aadl.specs.Words.{words, table}
 use Rattle.aadl.specs.Tokens.{marks}
-use Rattle.syntax_kind.specs.Tables.{candidate}
+use Rattle.keywords.specs.Tables.{candidate}
 use Rattle.runs.specs.Classes.{class-table}
 use Rattle.lexer.proofs.FillLaws.{Filling, filling-starts, filling-more, filling-full, filling-ends, token-fits}
 use borrow.Author.Needs.{needs}

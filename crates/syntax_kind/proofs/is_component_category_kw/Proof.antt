@@ -3,7 +3,7 @@ use mathlib.Core.List.{[], _∷_}
 use lib.Dec.{eqb}
 use Rattle.aadl.specs.Kinds.{#_, SYSTEM-KW, PROCESS-KW, THREAD-KW, PROCESSOR-KW, VIRTUAL-KW, BUS-KW, MEMORY-KW, DEVICE-KW, SUBPROGRAM-KW, DATA-KW, ABSTRACT-KW}
 use Rattle.aadl.specs.Section.{numbers}
-use Rattle.syntax_kind.specs.Tables.{categories}
+use Rattle.syntax_kind.specs.Categories.{categories}
 use Rattle.syntax_kind.proofs.KindSets.{joined-has}
 use Rattle.syntax_kind.proofs.is_component_category_kw.Statement.{statement}
 use Rattle.syntax_kind.proofs.is_component_category_kw.Tie as tie

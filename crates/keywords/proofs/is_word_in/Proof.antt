@@ -1,4 +1,4 @@
--- `syntax_kind::is_word_in` meets its contract. The loop's invariant: comparing what is left of the two words, which are equally long,
+-- `keywords::is_word_in` meets its contract. The loop's invariant: comparing what is left of the two words, which are equally long,
 -- decides as comparing the whole words does. Assumes nothing.
 use Prim.Native.Nat.{ℕ, _≤_, _<_, _-_, _+_}
 use native.Mathlib.Omega.{arith}
@@ -7,11 +7,11 @@ use mathlib.Core.List.{List}
 use lib.ListN.{length, drop, getD}
 use borrow.Author.Needs.{needs}
 use Rattle.aadl.specs.Words.{same}
-use Rattle.syntax_kind.specs.Tables.{row, letters-before, word-letters, word-lengths}
-use Rattle.syntax_kind.proofs.Columns.{start-at, length-at, letter-at, letter-in}
-use Rattle.syntax_kind.proofs.Comparing.{same-length, same-more, same-differs, same-end}
-use Rattle.syntax_kind.proofs.is_word_in.Statement.{statement}
-use Rattle.syntax_kind.proofs.is_word_in.Tie as tie
+use Rattle.keywords.specs.Tables.{row, letters-before, word-letters, word-lengths}
+use Rattle.keywords.proofs.Columns.{start-at, length-at, letter-at, letter-in}
+use Rattle.keywords.proofs.Comparing.{same-length, same-more, same-differs, same-end}
+use Rattle.keywords.proofs.is_word_in.Statement.{statement}
+use Rattle.keywords.proofs.is_word_in.Tie as tie
 
 abbrev Inv-loop : tie.InvT-loop
 Inv-loop word i letters starts lengths n from j₀ j =

@@ -1,4 +1,4 @@
--- `syntax_kind::keyword` meets its contract: a word of another length is none of the table, and of any other the candidate of its
+-- `keywords::keyword` meets its contract: a word of another length is none of the table, and of any other the candidate of its
 -- hash decides. Assumes nothing.
 use Prim.Native.Nat.{ℕ, _<_}
 use native.Mathlib.Omega.{arith}
@@ -11,11 +11,11 @@ use borrow.Author.Needs.{needs}
 use borrow.Author.Tests.{ltb-true, ltb-false}
 use Rattle.predictive.proofs.Tests.{or-l, or-r, or-cases}
 use Rattle.aadl.specs.Words.{same}
-use Rattle.syntax_kind.specs.Tables.{row, hash-of, candidate, word-slots}
-use Rattle.syntax_kind.proofs.Columns.{kind-at, slot-at}
-use Rattle.syntax_kind.proofs.OneCandidate.{hash-in, candidate-in, kind-of-row, kind-of-no-row, kind-of-other-length}
-use Rattle.syntax_kind.proofs.keyword.Statement.{statement}
-use Rattle.syntax_kind.proofs.keyword.Tie as tie
+use Rattle.keywords.specs.Tables.{row, hash-of, candidate, word-slots}
+use Rattle.keywords.proofs.Columns.{kind-at, slot-at}
+use Rattle.keywords.proofs.OneCandidate.{hash-in, candidate-in, kind-of-row, kind-of-no-row, kind-of-other-length}
+use Rattle.keywords.proofs.keyword.Statement.{statement}
+use Rattle.keywords.proofs.keyword.Tie as tie
 
 returns : tie.Need-returns
 returns c =

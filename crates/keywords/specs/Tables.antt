@@ -1,15 +1,14 @@
--- The tables that a word's kind is looked up in, as functions of the table of words; and the keywords that a component category can
--- begin with. The code's arrays equal these by computation. Assumes nothing.
+-- The tables that a word's kind is looked up in, as functions of the table of words. The code's arrays equal these by computation. Assumes nothing.
 use Prim.Native.Nat.{ℕ, suc, _+_, _-_, _*_, _/_, _%_}
 use mathlib.Core.Path.{_≡_}
 use mathlib.Core.Bool.{cond}
 use mathlib.Core.List.{List, [], _∷_, _++_, map}
 use lib.ListN.{length, getD, take}
 use lib.Dec.{eqb}
-use Rattle.aadl.specs.Kinds.{#_, IDENT, SYSTEM-KW, PROCESS-KW, THREAD-KW, PROCESSOR-KW, VIRTUAL-KW, BUS-KW, MEMORY-KW, DEVICE-KW, SUBPROGRAM-KW, DATA-KW, ABSTRACT-KW}
+use Rattle.aadl.specs.Kinds.{#_, IDENT}
 use Rattle.aadl.specs.Words.{Entry, table}
 use Rattle.aadl.specs.Bytes.{peek}
-use Rattle.aadl.specs.Section.{from, numbers}
+use Rattle.aadl.specs.Section.{from}
 
 -- COLUMNS --------------------------------------------------------------------------------------------------------------
 
@@ -70,12 +69,3 @@ pub record Lent (letters starts lengths kinds slots : List ℕ) : Type 0 where
   pub lengths-lent : lengths ≡ word-lengths
   pub kinds-lent : kinds ≡ word-kinds
   pub slots-lent : slots ≡ word-slots
-
--- CATEGORIES -----------------------------------------------------------------------------------------------------------
-
--- The first keyword of each component category: `group` only follows another.
-unfoldable pub categories : List ℕ
-categories =
-    numbers
-    (SYSTEM-KW ∷ PROCESS-KW ∷ THREAD-KW ∷ PROCESSOR-KW ∷ VIRTUAL-KW ∷ BUS-KW ∷ MEMORY-KW ∷ DEVICE-KW ∷ SUBPROGRAM-KW ∷ DATA-KW ∷
-    ABSTRACT-KW ∷ [])

@@ -10,7 +10,7 @@ use lib.ListN.{length, getD, take, length-append, List·getD-append}
 use lib.Seq.{getD-append-add}
 use Rattle.aadl.specs.Words.{Entry, words, table}
 use Rattle.aadl.specs.Section.{from}
-use Rattle.syntax_kind.specs.Tables.{no-word, row, laid, letters-before, word-letters, word-starts, word-lengths, word-kinds, candidate, word-slots}
+use Rattle.keywords.specs.Tables.{no-word, row, laid, letters-before, word-letters, word-starts, word-lengths, word-kinds, candidate, word-slots}
 
 -- VALUES ---------------------------------------------------------------------------------------------------------------
 

@@ -1,10 +1,10 @@
--- `syntax_kind::from_keyword` meets its contract: its arrays are the tables, by computation. Assumes nothing.
+-- `keywords::from_keyword` meets its contract: its arrays are the tables, by computation. Assumes nothing.
 use mathlib.Core.Path.{refl}
 use borrow.Author.Needs.{needs}
 use Rattle.aadl.specs.Words.{words, table}
-use Rattle.syntax_kind.specs.Tables.{candidate}
-use Rattle.syntax_kind.proofs.from_keyword.Statement.{statement}
-use Rattle.syntax_kind.proofs.from_keyword.Tie as tie
+use Rattle.keywords.specs.Tables.{candidate}
+use Rattle.keywords.proofs.from_keyword.Statement.{statement}
+use Rattle.keywords.proofs.from_keyword.Tie as tie
 
 keyword-requires : tie.Need-keyword-requires
 unfolding words table candidate

@@ -1,11 +1,11 @@
--- `syntax_kind::to_lower` meets its contract: its test is the definition's, and a capital is too small for the sum to wrap.
+-- `keywords::to_lower` meets its contract: its test is the definition's, and a capital is too small for the sum to wrap.
 -- Assumes nothing.
 use native.Mathlib.Omega.{arith}
 use lib.Dec.{leb}
 use borrow.Author.Tests.{leb-true}
 use Rattle.predictive.proofs.Tests.{and-r}
-use Rattle.syntax_kind.proofs.to_lower.Statement.{statement}
-use Rattle.syntax_kind.proofs.to_lower.Tie as tie
+use Rattle.keywords.proofs.to_lower.Statement.{statement}
+use Rattle.keywords.proofs.to_lower.Tie as tie
 
 add-result : tie.Need-add-result
 add-result c =

@@ -15,8 +15,8 @@ use Rattle.aadl.specs.Words.{words, table, lower, same, find, kind-of-word}
 use Rattle.aadl.specs.Bytes.{within}
 use Rattle.aadl.proofs.Bools.{below-at}
 use Rattle.aadl.proofs.KeywordKinds.{find-lower, same-is-lower, other-kind}
-use Rattle.syntax_kind.specs.Tables.{row, without-case, hash-of, candidate}
-use Rattle.syntax_kind.proofs.Comparing.{lower-is-same}
+use Rattle.keywords.specs.Tables.{row, without-case, hash-of, candidate}
+use Rattle.keywords.proofs.Comparing.{lower-is-same}
 
 -- THE HASH -------------------------------------------------------------------------------------------------------------
 

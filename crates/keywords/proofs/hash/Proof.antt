@@ -1,7 +1,7 @@
--- `syntax_kind::hash` meets its contract: the numbers are small, and each letter is read as the definition reads it. Assumes nothing.
+-- `keywords::hash` meets its contract: the numbers are small, and each letter is read as the definition reads it. Assumes nothing.
 use borrow.Author.Needs.{needs}
-use Rattle.syntax_kind.proofs.hash.Statement.{statement}
-use Rattle.syntax_kind.proofs.hash.Tie as tie
+use Rattle.keywords.proofs.hash.Statement.{statement}
+use Rattle.keywords.proofs.hash.Tie as tie
 
 pub hash-spec : {M : Type 1} → statement M
 hash-spec =

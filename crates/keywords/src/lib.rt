@@ -1,0 +1,102 @@
+// Which kind a word has: the table of words by columns, and the one candidate that a word's hash names.
+mod tables; // tables.rt: the table of words by columns
+
+use syntax_kind::IDENT;
+use syntax_kind::wide;
+use syntax_kind::wide32;
+pub use tables::KINDS;
+pub use tables::LENGTHS;
+pub use tables::LETTERS;
+pub use tables::SLOTS;
+pub use tables::STARTS;
+ghost use Prim.Native.Nat.{_≤_, _<_};
+ghost use mathlib.Core.Path.{_≡_};
+ghost use lib.ListN.{length};
+ghost use Rattle.aadl.specs.Words.{lower, same, kind-of-word};
+ghost use Rattle.keywords.specs.Tables.{row, word-letters, word-starts, word-lengths, hash-of, Lent};
+
+// The kind of a word, in any mix of ASCII case: a keyword's, or IDENT.
+pub fn from_keyword(word: &[u8]) -> u32
+    ensures { λ r. ⌜ r ≡ kind-of-word (now (word .entry)) ⌝ }
+{
+    let letters = LETTERS;
+    let starts = STARTS;
+    let lengths = LENGTHS;
+    let kinds = KINDS;
+    let slots = SLOTS;
+    keyword(word, &letters, &starts, &lengths, &kinds, &slots)
+}
+
+// The same over lent tables: reading a `const` array builds it anew, so who looks up many words copies the tables once.
+pub fn keyword(
+    word: &[u8],
+    letters: &[u8; 510],
+    starts: &[u16; 82],
+    lengths: &[u8; 82],
+    kinds: &[u8; 82],
+    slots: &[u8; 256],
+) -> u32
+    requires { ⌜ Lent (now letters) (now starts) (now lengths) (now kinds) (now slots) ⌝ }
+    ensures { λ r. ⌜ r ≡ kind-of-word (now (word .entry)) ⌝ }
+{
+    let n = word.len();
+    // every word of the table has 1 to 14 letters
+    if (n < 1) | (14 < n) {
+        return IDENT;
+    }
+    let i = wide(slots[hash(word)]);
+    if is_word_in(word, i, letters, starts, lengths) {
+        return wide32(kinds[i]);
+    }
+    IDENT
+}
+
+// A number below 256 from a word's length and its first, last and middle letters without their case: no two words of the
+// table have the same, so one comparison decides.
+fn hash(word: &[u8]) -> usize
+    requires { ⌜ (1 ≤ length (now word)) × (length (now word) ≤ 14) ⌝ }
+    ensures { λ r. ⌜ r ≡ hash-of (now (word .entry)) ⌝ }
+{
+    let n = word.len();
+    (n * 8 + wide(word[0]) % 32 * 23 + wide(word[n - 1]) % 32 * 5 + wide(word[n / 2]) % 32 * 25)
+        % 256
+}
+
+// Whether a word is that of a row, in any mix of ASCII case.
+fn is_word_in(
+    word: &[u8],
+    i: usize,
+    letters: &[u8; 510],
+    starts: &[u16; 82],
+    lengths: &[u8; 82],
+) -> bool
+    requires { ⌜ (i < 82) × (now letters ≡ word-letters) × (now starts ≡ word-starts) × (now lengths ≡ word-lengths) ⌝ }
+    ensures { λ r. ⌜ r ≡ same (row i .word) (now (word .entry)) ⌝ }
+{
+    let n = wide(lengths[i]);
+    if word.len() != n {
+        return false;
+    }
+    let from = wide16(starts[i]);
+    let mut j = 0;
+    while j < n {
+        if letters[from + j] != to_lower(word[j]) {
+            return false;
+        }
+        j += 1;
+    }
+    true
+}
+
+// An ASCII capital as its small letter, any other byte as it is.
+fn to_lower(b: u8) -> u8
+    ensures { λ r. ⌜ r ≡ lower b ⌝ }
+{
+    if (65 <= b) & (b <= 90) { b + 32 } else { b }
+}
+
+fn wide16(x: u16) -> usize
+    ensures { λ r. ⌜ r ≡ x ⌝ }
+{
+    x as usize
+}
