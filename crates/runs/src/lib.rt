@@ -3,11 +3,9 @@
 
 use syntax_kind::wide;
 ghost use mathlib.Core.Path.{_≡_};
-ghost use mathlib.Core.Bool.{Bool, true, false};
-ghost use Prim.Native.Nat.{ℕ, _+_, _≤_, _<_};
-ghost use lib.ListN.{length, drop};
+ghost use Prim.Native.Nat.{_≤_, _<_};
+ghost use lib.ListN.{length};
 ghost use Rattle.aadl.specs.Bytes.{is-whitespace, is-ident-continue, run-end};
-ghost use Rattle.aadl.specs.Utf8.{ill-formed};
 ghost use Rattle.runs.specs.Classes.{class-table, in-run, any, sought, unsought, other-than};
 
 // Whitespace 1, digits 60, letters and `_` 61, a mark that no other mark begins with its kind (5 to 27), any other byte 0.
@@ -377,10 +375,10 @@ pub fn next_byte(s: &[u8], from: usize, x: u8) -> usize
     next_between(s, from, x, x)
 }
 
-// Past the bytes below 128.
+// The next byte of 128 or more from a place on, or the length.
 pub fn skip_ascii(s: &[u8], from: usize) -> usize
     requires { ⌜ from ≤ length (now s) ⌝ }
-    ensures { λ r. ⌜ (from ≤ r) × (r ≤ length (now (s .entry))) × (r + ill-formed (drop r (now (s .entry))) ≡ from + ill-formed (drop from (now (s .entry)))) ⌝ }
+    ensures { λ r. ⌜ (r ≡ run-end (unsought 128 255) (now (s .entry)) from) × (r ≤ length (now (s .entry))) ⌝ }
 {
     next_between(s, from, 128, 255)
 }

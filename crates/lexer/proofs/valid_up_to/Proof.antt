@@ -1,16 +1,25 @@
 -- One sequence above ASCII at a turn: the first ill-formed place of the rest, counted from `at`, is that of the text. The measure is what is
 -- left of the text. Assumes nothing.
-use Prim.Native.Nat.{_≤_, _-_, _+_}
+use Prim.Native.Nat.{ℕ, _≤_, _-_, _+_}
 use mathlib.Core.Path.{_≡_, sym, ap, _∙_}
+use mathlib.Core.List.{List}
 use native.Mathlib.Omega.{arith}
 use native.Mathlib.Nat.{zero-add}
+use Rattle.aadl.specs.Bytes.{run-end}
 use Rattle.aadl.specs.Utf8.{ill-formed, sequence}
 use Rattle.lexer.proofs.SequenceLaws.{ill-here, sequence-in, ill-next, rest}
 use Rattle.aadl.proofs.Utf8Laws.{ill-formed-none}
+use Rattle.aadl.proofs.RunLaws.{run-end-from}
+use Rattle.runs.specs.Classes.{unsought}
+use Rattle.runs.proofs.Chunks.{ascii-run-end}
 use lib.ListN.{length, drop, length-drop}
 use borrow.Author.Needs.{needs}
 use Rattle.lexer.proofs.valid_up_to.Statement.{statement}
 use Rattle.lexer.proofs.valid_up_to.Tie as tie
+
+-- past ASCII the first ill-formed place stays
+skipped : (s : List ℕ) (from r : ℕ) → r ≡ run-end (unsought 128 255) s from → r + ill-formed (drop r s) ≡ from + ill-formed (drop from s)
+skipped s from r e = ap (λ (k : ℕ). k + ill-formed (drop k s)) e ∙ ascii-run-end s from
 
 abbrev Inv-loop : tie.InvT-loop
 Inv-loop s at₀ at = (at + ill-formed (drop at s) ≡ ill-formed s) × (at ≤ length s)
@@ -19,7 +28,9 @@ abbrev μ-loop : tie.MeasureT-loop
 μ-loop s at₀ at = length s - at
 
 loop-holds : tie.Need-loop-holds Inv-loop μ-loop
-loop-holds c = (c .skip-ascii .ensures .2 ∙ zero-add (ill-formed (c .before .before .args .s .now)), c .skip-ascii .ensures .1)
+loop-holds c =
+    let s = c .before .before .args .s .now in
+    (skipped s 0 (c .skip-ascii .result) (c .skip-ascii .ensures .0) ∙ zero-add (ill-formed s), c .skip-ascii .ensures .1)
 
 returns : tie.Need-returns Inv-loop μ-loop
 returns c =
@@ -52,7 +63,7 @@ loop-less c =
     let n = c .before .before .scan-sequence .result in
     let e = c .before .before .scan-sequence .ensures ∙ ap sequence (rest s (l .at)) in
     let z = c .before .if1 .left in
-    omega (arith, c .skip-ascii2 .ensures .0)
+    omega (arith, c .skip-ascii2 .ensures .0, run-end-from (unsought 128 255) s (l .at + n))
 
 loop-again : tie.Need-loop-again Inv-loop μ-loop
 loop-again c =
@@ -60,7 +71,7 @@ loop-again c =
     let l = c .before .before .before .before .before .loop in
     let n = c .before .before .scan-sequence .result in
     let e = c .before .before .scan-sequence .ensures ∙ ap sequence (rest s (l .at)) in
-    (c .skip-ascii2 .ensures .2 ∙ sym (ill-next s (l .at) n (search needs) e (c .before .if1 .left)) ∙ l .inv .0, c .skip-ascii2 .ensures .1)
+    (skipped s (l .at + n) (c .skip-ascii2 .result) (c .skip-ascii2 .ensures .0) ∙ sym (ill-next s (l .at) n (search needs) e (c .before .if1 .left)) ∙ l .inv .0, c .skip-ascii2 .ensures .1)
 
 returns-2 : tie.Need-returns-2 Inv-loop μ-loop
 returns-2 c =
