@@ -59,16 +59,27 @@ forms sort kss = map (λ (ks : List Kind). sort (numbers ks)) kss
 -- PATHS AND CLASSIFIERS ------------------------------------------------------------------------------------------------
 
 -- "Subscript: `[`, then nothing, IDENT, or INTEGER_LIT (`..` INTEGER_LIT?)?, then `]`."
+abbrev pub index-end : Part Rule
+index-end = token DOT-DOT · maybe (token INTEGER-LIT)
+
+abbrev pub index : Part Rule
+index = token INTEGER-LIT · maybe index-end ∣ token IDENT
+
 abbrev pub subscript : Part Rule
-subscript =
-    token L-BRACKET · maybe (token INTEGER-LIT · maybe (token DOT-DOT · maybe (token INTEGER-LIT)) ∣ token IDENT) · token R-BRACKET
+subscript = token L-BRACKET · maybe index · token R-BRACKET
 
 -- "Path → CONTAINMENT_PATH: nothing, or IDENT Subscript* (`.` (IDENT Subscript*)?)*."
 abbrev pub segment : Part Rule
 segment = token IDENT · many subscript
 
+abbrev pub next-segment : Part Rule
+next-segment = token DOT · maybe segment
+
+abbrev pub segments : Part Rule
+segments = segment · many next-segment
+
 abbrev pub path : Part Rule
-path = node CONTAINMENT-PATH (maybe (segment · many (token DOT · maybe segment)))
+path = node CONTAINMENT-PATH (maybe segments)
 
 -- "Direction → DIRECTION: in, in out, out, provides, requires."
 abbrev pub direction-forms : List Form
@@ -80,21 +91,30 @@ direction-forms =
 -- access; or → COMPONENT_CATEGORY: virtual bus, virtual processor, thread, thread group, subprogram, subprogram group, system,
 -- process, processor, bus, memory, device, data, abstract." "A `virtual` where a Category may begin fits no other rule": alone it
 -- is broken, message 8.
-abbrev pub category-forms : List Form
-category-forms =
+abbrev pub feature-forms : List Form
+feature-forms =
     forms row
     ((DATA-KW ∷ PORT-KW ∷ []) ∷ (EVENT-KW ∷ DATA-KW ∷ []) ∷ (EVENT-KW ∷ DATA-KW ∷ PORT-KW ∷ []) ∷ (EVENT-KW ∷ PORT-KW ∷ []) ∷
     (EVENT-KW ∷ []) ∷ (DATA-KW ∷ ACCESS-KW ∷ []) ∷ (BUS-KW ∷ ACCESS-KW ∷ []) ∷ (FEATURE-KW ∷ []) ∷ (FEATURE-KW ∷ GROUP-KW ∷ []) ∷
     (PORT-KW ∷ []) ∷ (ACCESS-KW ∷ []) ∷ [])
-    ++ forms (row-in (# COMPONENT-CATEGORY))
+
+abbrev pub component-forms : List Form
+component-forms =
+    forms (row-in (# COMPONENT-CATEGORY))
     ((VIRTUAL-KW ∷ BUS-KW ∷ []) ∷ (VIRTUAL-KW ∷ PROCESSOR-KW ∷ []) ∷ (THREAD-KW ∷ []) ∷ (THREAD-KW ∷ GROUP-KW ∷ []) ∷
     (SUBPROGRAM-KW ∷ []) ∷ (SUBPROGRAM-KW ∷ GROUP-KW ∷ []) ∷ (SYSTEM-KW ∷ []) ∷ (PROCESS-KW ∷ []) ∷ (PROCESSOR-KW ∷ []) ∷
     (BUS-KW ∷ []) ∷ (MEMORY-KW ∷ []) ∷ (DEVICE-KW ∷ []) ∷ (DATA-KW ∷ []) ∷ (ABSTRACT-KW ∷ []) ∷ [])
     ++ (broken (# COMPONENT-CATEGORY) (numbers (VIRTUAL-KW ∷ [])) 8 ∷ [])
 
+abbrev pub category-forms : List Form
+category-forms = feature-forms ++ component-forms
+
 -- "Preference B: after a Binding's `=>`, Direction and then Category take the longest listed form that stands there."
 abbrev pub direction : Part Rule
 direction = longest direction-forms
+
+abbrev pub component-category : Part Rule
+component-category = longest component-forms
 
 abbrev pub category : Part Rule
 category = longest category-forms
@@ -104,36 +124,68 @@ abbrev pub binding : Part Rule → Part Rule
 binding head = node PROTOTYPE-BINDING (head · token FAT-ARROW · direction · category · maybe (rule Classifier))
 
 -- "Bindings → PROTOTYPE_BINDING_LIST: `(` (Binding (`,` Binding)*)? `)`."
+abbrev pub binding-list : Part Rule
+binding-list = node PROTOTYPE-BINDING-LIST (token L-PAREN · maybe (commas (binding name) (binding any)) · token R-PAREN)
+
 abbrev pub bindings : Part Rule
-bindings = opens (node PROTOTYPE-BINDING-LIST (token L-PAREN · maybe (commas (binding name) (binding any)) · token R-PAREN))
+bindings = opens binding-list
 
 -- "Classifier → CLASSIFIER_REF: Name (`::` Name)* (`.` Name)? Bindings?"
+abbrev pub qualifier : Part Rule
+qualifier = token COLON-COLON · tok 6 names
+
+abbrev pub implementation : Part Rule
+implementation = token DOT · tok 7 names
+
 abbrev pub classifier : Part Rule
-classifier =
-    node CLASSIFIER-REF
-    (name · many (token COLON-COLON · tok 6 names) · maybe (token DOT · tok 7 names) · maybe bindings)
+classifier = node CLASSIFIER-REF (name · many qualifier · maybe implementation · maybe bindings)
 
 -- EXPRESSIONS ----------------------------------------------------------------------------------------------------------
 
 -- "IDENT (`::` Name?)*". "Preference C: a Name right after an operand's `::` belongs to that operand."
+abbrev pub qualified : Part Rule
+qualified = token COLON-COLON · opt (unless (ones names)) name
+
 abbrev pub named-value : Part Rule
-named-value = node PROPERTY-EXPRESSION (token IDENT · many (token COLON-COLON · opt (unless (ones names)) name))
+named-value = node PROPERTY-EXPRESSION (token IDENT · many qualified)
 
 -- "Preference A: the Expression after `not` is not followed by `+ - * /`, ..": the rest of A is in `negated`.
-abbrev pub negation : Part Rule
-negation = opens (node BOOLEAN-VALUE (token NOT-KW · before (heads (PLUS ∷ MINUS ∷ STAR ∷ SLASH ∷ [])) (rule Negated)))
+abbrev pub not-value : Part Rule
+not-value = node BOOLEAN-VALUE (token NOT-KW · before (heads (PLUS ∷ MINUS ∷ STAR ∷ SLASH ∷ [])) (rule Negated))
 
 abbrev pub list-value : Part Rule
-list-value = opens (node LIST-VALUE (token L-PAREN · until (# R-PAREN) (commas (rule Expression) (rule Expression))))
+list-value = node LIST-VALUE (token L-PAREN · until (# R-PAREN) (commas (rule Expression) (rule Expression)))
 
 abbrev pub record-field : Part Rule
 record-field = node RECORD-FIELD (token IDENT · token FAT-ARROW · rule Expression · token SEMICOLON)
 
 abbrev pub record-value : Part Rule
-record-value = opens (node RECORD-VALUE (token L-BRACKET · many record-field · token R-BRACKET))
+record-value = node RECORD-VALUE (token L-BRACKET · many record-field · token R-BRACKET)
 
 abbrev pub signed-value : Part Rule
-signed-value = opens (node PROPERTY-EXPRESSION (one-of (PLUS ∷ MINUS ∷ []) · rule Operand))
+signed-value = node PROPERTY-EXPRESSION (one-of (PLUS ∷ MINUS ∷ []) · rule Operand)
+
+-- literals, and keywords with parentheses
+abbrev pub integer-value : Part Rule
+integer-value = node INTEGER-VALUE (token INTEGER-LIT · maybe (token IDENT))
+
+abbrev pub real-value : Part Rule
+real-value = node REAL-VALUE (token REAL-LIT · maybe (token IDENT))
+
+abbrev pub string-value : Part Rule
+string-value = node STRING-VALUE (token STRING-LIT)
+
+abbrev pub boolean-value : Part Rule
+boolean-value = node BOOLEAN-VALUE (one-of (TRUE-KW ∷ FALSE-KW ∷ []))
+
+abbrev pub classifier-value : Part Rule
+classifier-value = node CLASSIFIER-VALUE (token CLASSIFIER-KW · token L-PAREN · maybe classifier · token R-PAREN)
+
+abbrev pub reference-value : Part Rule
+reference-value = node REFERENCE-VALUE (token REFERENCE-KW · token L-PAREN · path · token R-PAREN)
+
+abbrev pub computed-value : Part Rule
+computed-value = node COMPUTED-VALUE (token COMPUTE-KW · token L-PAREN · maybe (token IDENT) · token R-PAREN)
 
 -- "Operand: INTEGER_LIT or REAL_LIT with IDENT? → INTEGER_VALUE, REAL_VALUE; STRING_LIT → STRING_VALUE; true, false, or not
 -- Expression → BOOLEAN_VALUE; classifier `(` Classifier? `)` → CLASSIFIER_VALUE; reference `(` Path `)` → REFERENCE_VALUE; compute
@@ -142,18 +194,18 @@ signed-value = opens (node PROPERTY-EXPRESSION (one-of (PLUS ∷ MINUS ∷ []) �
 -- begins is taken inside an ERROR node"; "a missing operand gives 5 and opens no node".
 abbrev pub operand : Part Rule
 operand =
-    node INTEGER-VALUE (token INTEGER-LIT · maybe (token IDENT))
-    ∣ node REAL-VALUE (token REAL-LIT · maybe (token IDENT))
-    ∣ node STRING-VALUE (token STRING-LIT)
-    ∣ node BOOLEAN-VALUE (one-of (TRUE-KW ∷ FALSE-KW ∷ []))
-    ∣ negation
-    ∣ node CLASSIFIER-VALUE (token CLASSIFIER-KW · token L-PAREN · maybe classifier · token R-PAREN)
-    ∣ node REFERENCE-VALUE (token REFERENCE-KW · token L-PAREN · path · token R-PAREN)
-    ∣ node COMPUTED-VALUE (token COMPUTE-KW · token L-PAREN · maybe (token IDENT) · token R-PAREN)
-    ∣ list-value
-    ∣ record-value
+    integer-value
+    ∣ real-value
+    ∣ string-value
+    ∣ boolean-value
+    ∣ opens not-value
+    ∣ classifier-value
+    ∣ reference-value
+    ∣ computed-value
+    ∣ opens list-value
+    ∣ opens record-value
     ∣ named-value
-    ∣ signed-value
+    ∣ opens signed-value
     ∣ wrong C-STYLE (# ERROR) 4
     ∣ fail 5
 
@@ -165,8 +217,11 @@ abbrev pub sum : Part Rule
 sum = leaning (# BINARY-EXPR) product (one-of (PLUS ∷ MINUS ∷ []) · product)
 
 -- "Expression: Sum, or Sum `..` Sum → RANGE_VALUE, whose end may be (delta Sum → DELTA_VALUE)."
+abbrev pub delta-value : Part Rule
+delta-value = node DELTA-VALUE (token DELTA-KW · sum)
+
 abbrev pub range : (own-range own-delta : Choice) → Part Rule
-range r d = suffix r (# RANGE-VALUE) sum (token DOT-DOT · sum · opt d (node DELTA-VALUE (token DELTA-KW · sum)))
+range r d = suffix r (# RANGE-VALUE) sum (token DOT-DOT · sum · opt d delta-value)
 
 abbrev pub expression : Part Rule
 expression = range free free
@@ -178,11 +233,17 @@ negated = range (unless (heads (DOT-DOT ∷ []))) (unless (heads (DELTA-KW ∷ [
 -- ASSOCIATIONS AND THE SECTION -----------------------------------------------------------------------------------------
 
 -- "Modes → MODAL_PROPERTY_VALUE: in modes `(` (Mode (`,` Mode?)*)? `)`; Mode: Name (`=>` Name?)?."
+abbrev pub mapping : Part Rule
+mapping = token FAT-ARROW · maybe name
+
 abbrev pub mode : Part Rule
-mode = name · maybe (token FAT-ARROW · maybe name)
+mode = name · maybe mapping
+
+abbrev pub in-modes : Part Rule
+in-modes = pair (# IN-KW) (# MODES-KW) · token L-PAREN · maybe (commas mode (maybe mode)) · token R-PAREN
 
 abbrev pub modes : Part Rule
-modes = node MODAL-PROPERTY-VALUE (pair (# IN-KW) (# MODES-KW) · token L-PAREN · maybe (commas mode (maybe mode)) · token R-PAREN)
+modes = node MODAL-PROPERTY-VALUE in-modes
 
 abbrev pub value : Part Rule
 value = expression · maybe modes
@@ -199,9 +260,12 @@ in-binding = node IN-BINDING (pair (# IN-KW) (# BINDING-KW) · token L-PAREN · 
 abbrev pub property-ref : (first second : Part Rule) → Part Rule
 property-ref first second = node PROPERTY-REF (first · maybe (token COLON-COLON · second))
 
+abbrev pub arrow : Part Rule
+arrow = tok 1 (numbers (FAT-ARROW ∷ PLUS-ARROW ∷ []))
+
 abbrev pub association-rest : Part Rule
 association-rest =
-    tok 1 (numbers (FAT-ARROW ∷ PLUS-ARROW ∷ []))
+    arrow
     · maybe (token CONSTANT-KW)
     · commas value value
     · maybe applies-to

@@ -12,5 +12,6 @@ pub mod Exactly
 pub mod OneMore
 pub mod Relabel
 pub mod EventLaws
+pub mod Takes
 pub mod Spell
 pub mod Examples

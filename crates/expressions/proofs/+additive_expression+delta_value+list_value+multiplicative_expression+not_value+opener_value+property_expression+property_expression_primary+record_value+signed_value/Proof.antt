@@ -1,0 +1,1006 @@
+-- The cycle of readers: an operand may hold an expression, with one opener fewer left. One law for each statement (Join, Levels, Chains), the first token by Operands. Assumes nothing.
+use native.Mathlib.Omega.{arith}
+use mathlib.Core.Path.{refl, sym, ap, _∙_}
+use Rattle.predictive.specs.Forest.{nested}
+use Rattle.predictive.specs.Grammar.{free}
+use Rattle.predictive.specs.Reader.{ones, first, null, take-one, take-any, take-wrong, step, read}
+use Rattle.predictive.proofs.Takes.{takes}
+use Rattle.aadl.specs.Section.{Expression, Operand, names, keywords, operand, product, record-field}
+use Rattle.parser.specs.declared.Parser.{Parser}
+use Rattle.parser.specs.Input.{input}
+use Rattle.parser.proofs.Emitted.{started-left, preceded-left, completed-left}
+use Rattle.parser.proofs.Join.{read-left, read-long, r-opt-yes, r-opt-no, r-until, r-until-at-once, r-rule, r-deep}
+use Rattle.parser.proofs.Taking.{r-fail, bumped-after}
+use Rattle.parser.proofs.Loops.{Turning, μ, w-holds, w-less, w-done}
+use Rattle.parser.proofs.Chains.{o-none, x-none, x-stay, c-none, c-holds, c-less, c-done}
+use Rattle.parser.proofs.Levels.{seq-at, inside-at, node-at, again-at, link-at, turn-at, told, untold, same}
+use Rattle.categories.proofs.Words.{stands-neither}
+use Rattle.expressions.proofs.Operands.{r-negated, arm, openers, others, no-operand, opened-by, opened-else, none-stands, opener-operand, single-operand, single-product, single-sum, factor, term, next-item, Chained}
+use Prim.Native.Nat.{ℕ, suc, _<_, _+_, _*_}
+use borrow.Author.Needs.{needs}
+use borrow.Fn.Kinds.{In}
+use borrow.Fn.PlainCycle.{Measures, is, falls, and}
+use Rattle.expressions.proofs.additive_expression.Reads as additive-expression
+use Rattle.expressions.proofs.additive_expression.Kinds as additive-expression-kinds
+use Rattle.expressions.proofs.+additive_expression+delta_value+list_value+multiplicative_expression+not_value+opener_value+property_expression+property_expression_primary+record_value+signed_value.Lts-additive_expression as additive-expression-lts
+use Rattle.expressions.proofs.delta_value.Reads as delta-value
+use Rattle.expressions.proofs.delta_value.Kinds as delta-value-kinds
+use Rattle.expressions.proofs.+additive_expression+delta_value+list_value+multiplicative_expression+not_value+opener_value+property_expression+property_expression_primary+record_value+signed_value.Lts-delta_value as delta-value-lts
+use Rattle.expressions.proofs.list_value.Reads as list-value
+use Rattle.expressions.proofs.list_value.Kinds as list-value-kinds
+use Rattle.expressions.proofs.+additive_expression+delta_value+list_value+multiplicative_expression+not_value+opener_value+property_expression+property_expression_primary+record_value+signed_value.Lts-list_value as list-value-lts
+use Rattle.expressions.proofs.multiplicative_expression.Reads as multiplicative-expression
+use Rattle.expressions.proofs.multiplicative_expression.Kinds as multiplicative-expression-kinds
+use Rattle.expressions.proofs.+additive_expression+delta_value+list_value+multiplicative_expression+not_value+opener_value+property_expression+property_expression_primary+record_value+signed_value.Lts-multiplicative_expression as multiplicative-expression-lts
+use Rattle.expressions.proofs.not_value.Reads as not-value
+use Rattle.expressions.proofs.not_value.Kinds as not-value-kinds
+use Rattle.expressions.proofs.+additive_expression+delta_value+list_value+multiplicative_expression+not_value+opener_value+property_expression+property_expression_primary+record_value+signed_value.Lts-not_value as not-value-lts
+use Rattle.expressions.proofs.opener_value.Reads as opener-value
+use Rattle.expressions.proofs.opener_value.Kinds as opener-value-kinds
+use Rattle.expressions.proofs.+additive_expression+delta_value+list_value+multiplicative_expression+not_value+opener_value+property_expression+property_expression_primary+record_value+signed_value.Lts-opener_value as opener-value-lts
+use Rattle.expressions.proofs.property_expression.Reads as property-expression
+use Rattle.expressions.proofs.property_expression.Kinds as property-expression-kinds
+use Rattle.expressions.proofs.+additive_expression+delta_value+list_value+multiplicative_expression+not_value+opener_value+property_expression+property_expression_primary+record_value+signed_value.Lts-property_expression as property-expression-lts
+use Rattle.expressions.proofs.property_expression_primary.Reads as property-expression-primary
+use Rattle.expressions.proofs.property_expression_primary.Kinds as property-expression-primary-kinds
+use Rattle.expressions.proofs.+additive_expression+delta_value+list_value+multiplicative_expression+not_value+opener_value+property_expression+property_expression_primary+record_value+signed_value.Lts-property_expression_primary as property-expression-primary-lts
+use Rattle.expressions.proofs.record_value.Reads as record-value
+use Rattle.expressions.proofs.record_value.Kinds as record-value-kinds
+use Rattle.expressions.proofs.+additive_expression+delta_value+list_value+multiplicative_expression+not_value+opener_value+property_expression+property_expression_primary+record_value+signed_value.Lts-record_value as record-value-lts
+use Rattle.expressions.proofs.signed_value.Reads as signed-value
+use Rattle.expressions.proofs.signed_value.Kinds as signed-value-kinds
+use Rattle.expressions.proofs.+additive_expression+delta_value+list_value+multiplicative_expression+not_value+opener_value+property_expression+property_expression_primary+record_value+signed_value.Lts-signed_value as signed-value-lts
+use Rattle.expressions.proofs.at_factor.Reads as at-factor-reads
+use Rattle.expressions.proofs.at_opener.Reads as at-opener-reads
+use Rattle.expressions.proofs.at_sign.Reads as at-sign-reads
+use Rattle.expressions.proofs.closed.Reads as closed-reads
+use Rattle.expressions.proofs.operand.Reads as operand-reads
+use Rattle.grammar.proofs.classifier_value.Reads as classifier-value-reads
+use Rattle.parser.proofs.at.Reads as at-reads
+use Rattle.parser.proofs.bump.Reads as bump-reads
+use Rattle.parser.proofs.bump_any.Reads as bump-any-reads
+use Rattle.parser.proofs.complete.Reads as complete-reads
+use Rattle.parser.proofs.current.Reads as current-reads
+use Rattle.parser.proofs.error.Reads as error-reads
+use Rattle.parser.proofs.expect.Reads as expect-reads
+use Rattle.parser.proofs.precede.Reads as precede-reads
+use Rattle.parser.proofs.start.Reads as start-reads
+use Rattle.parser.proofs.too_deep.Reads as too-deep-reads
+use Rattle.parser.proofs.with_left.Reads as with-left-reads
+use Rattle.values.proofs.boolean_value.Reads as boolean-value-reads
+use Rattle.values.proofs.c_style_value.Reads as c-style-value-reads
+use Rattle.values.proofs.computed_value.Reads as computed-value-reads
+use Rattle.values.proofs.integer_value.Reads as integer-value-reads
+use Rattle.values.proofs.named_value.Reads as named-value-reads
+use Rattle.values.proofs.real_value.Reads as real-value-reads
+use Rattle.values.proofs.reference_value.Reads as reference-value-reads
+use Rattle.values.proofs.string_value.Reads as string-value-reads
+use Rattle.expressions.proofs.+additive_expression+delta_value+list_value+multiplicative_expression+not_value+opener_value+property_expression+property_expression_primary+record_value+signed_value.{statement}
+use Rattle.expressions.proofs.+additive_expression+delta_value+list_value+multiplicative_expression+not_value+opener_value+property_expression+property_expression_primary+record_value+signed_value.Tie.{close}
+
+-- MEASURES: the openers left, and by how much a function stands above those that it calls with as many
+
+abbrev μ-additive-expression : Measures 3 additive-expression-kinds.ps ℕ
+μ-additive-expression κs a = a .1 .1 .1 .0 .left * 8 + 3
+
+abbrev μ-delta-value : Measures 3 delta-value-kinds.ps ℕ
+μ-delta-value κs a = a .1 .1 .1 .0 .left * 8 + 4
+
+abbrev μ-list-value : Measures 3 list-value-kinds.ps ℕ
+μ-list-value κs a = a .1 .1 .1 .0 .left * 8 + 6
+
+abbrev μ-multiplicative-expression : Measures 3 multiplicative-expression-kinds.ps ℕ
+μ-multiplicative-expression κs a = a .1 .1 .1 .0 .left * 8 + 2
+
+abbrev μ-not-value : Measures 3 not-value-kinds.ps ℕ
+μ-not-value κs a = a .1 .1 .1 .0 .left * 8 + 6
+
+abbrev μ-opener-value : Measures 3 opener-value-kinds.ps ℕ
+μ-opener-value κs a = a .1 .1 .1 .0 .left * 8 + 0
+
+abbrev μ-property-expression : Measures 3 property-expression-kinds.ps ℕ
+μ-property-expression κs a = a .1 .1 .1 .0 .left * 8 + 5
+
+abbrev μ-property-expression-primary : Measures 3 property-expression-primary-kinds.ps ℕ
+μ-property-expression-primary κs a = a .1 .1 .1 .0 .left * 8 + 1
+
+abbrev μ-record-value : Measures 3 record-value-kinds.ps ℕ
+μ-record-value κs a = a .1 .1 .1 .0 .left * 8 + 6
+
+abbrev μ-signed-value : Measures 3 signed-value-kinds.ps ℕ
+μ-signed-value κs a = a .1 .1 .1 .0 .left * 8 + 6
+
+abbrev additive-expression-at : ℕ → In 3 additive-expression-kinds.ps
+additive-expression-at t = and 3 additive-expression-kinds.ps (is 3 additive-expression-kinds.ps μ-additive-expression t) additive-expression.Pre
+
+abbrev additive-expression-below : ℕ → In 3 additive-expression-kinds.ps
+additive-expression-below t =
+    and 3 additive-expression-kinds.ps (falls 3 additive-expression-kinds.ps _<_ μ-additive-expression t) additive-expression.Pre
+
+abbrev delta-value-at : ℕ → In 3 delta-value-kinds.ps
+delta-value-at t = and 3 delta-value-kinds.ps (is 3 delta-value-kinds.ps μ-delta-value t) delta-value.Pre
+
+abbrev delta-value-below : ℕ → In 3 delta-value-kinds.ps
+delta-value-below t = and 3 delta-value-kinds.ps (falls 3 delta-value-kinds.ps _<_ μ-delta-value t) delta-value.Pre
+
+abbrev list-value-at : ℕ → In 3 list-value-kinds.ps
+list-value-at t = and 3 list-value-kinds.ps (is 3 list-value-kinds.ps μ-list-value t) list-value.Pre
+
+abbrev list-value-below : ℕ → In 3 list-value-kinds.ps
+list-value-below t = and 3 list-value-kinds.ps (falls 3 list-value-kinds.ps _<_ μ-list-value t) list-value.Pre
+
+abbrev multiplicative-expression-at : ℕ → In 3 multiplicative-expression-kinds.ps
+multiplicative-expression-at t =
+    and 3 multiplicative-expression-kinds.ps (is 3 multiplicative-expression-kinds.ps μ-multiplicative-expression t) multiplicative-expression.Pre
+
+abbrev multiplicative-expression-below : ℕ → In 3 multiplicative-expression-kinds.ps
+multiplicative-expression-below t =
+    and 3 multiplicative-expression-kinds.ps (falls 3 multiplicative-expression-kinds.ps _<_ μ-multiplicative-expression t)
+    multiplicative-expression.Pre
+
+abbrev not-value-at : ℕ → In 3 not-value-kinds.ps
+not-value-at t = and 3 not-value-kinds.ps (is 3 not-value-kinds.ps μ-not-value t) not-value.Pre
+
+abbrev not-value-below : ℕ → In 3 not-value-kinds.ps
+not-value-below t = and 3 not-value-kinds.ps (falls 3 not-value-kinds.ps _<_ μ-not-value t) not-value.Pre
+
+abbrev opener-value-at : ℕ → In 3 opener-value-kinds.ps
+opener-value-at t = and 3 opener-value-kinds.ps (is 3 opener-value-kinds.ps μ-opener-value t) opener-value.Pre
+
+abbrev opener-value-below : ℕ → In 3 opener-value-kinds.ps
+opener-value-below t = and 3 opener-value-kinds.ps (falls 3 opener-value-kinds.ps _<_ μ-opener-value t) opener-value.Pre
+
+abbrev property-expression-at : ℕ → In 3 property-expression-kinds.ps
+property-expression-at t = and 3 property-expression-kinds.ps (is 3 property-expression-kinds.ps μ-property-expression t) property-expression.Pre
+
+abbrev property-expression-below : ℕ → In 3 property-expression-kinds.ps
+property-expression-below t =
+    and 3 property-expression-kinds.ps (falls 3 property-expression-kinds.ps _<_ μ-property-expression t) property-expression.Pre
+
+abbrev property-expression-primary-at : ℕ → In 3 property-expression-primary-kinds.ps
+property-expression-primary-at t =
+    and 3 property-expression-primary-kinds.ps (is 3 property-expression-primary-kinds.ps μ-property-expression-primary t)
+    property-expression-primary.Pre
+
+abbrev property-expression-primary-below : ℕ → In 3 property-expression-primary-kinds.ps
+property-expression-primary-below t =
+    and 3 property-expression-primary-kinds.ps (falls 3 property-expression-primary-kinds.ps _<_ μ-property-expression-primary t)
+    property-expression-primary.Pre
+
+abbrev record-value-at : ℕ → In 3 record-value-kinds.ps
+record-value-at t = and 3 record-value-kinds.ps (is 3 record-value-kinds.ps μ-record-value t) record-value.Pre
+
+abbrev record-value-below : ℕ → In 3 record-value-kinds.ps
+record-value-below t = and 3 record-value-kinds.ps (falls 3 record-value-kinds.ps _<_ μ-record-value t) record-value.Pre
+
+abbrev signed-value-at : ℕ → In 3 signed-value-kinds.ps
+signed-value-at t = and 3 signed-value-kinds.ps (is 3 signed-value-kinds.ps μ-signed-value t) signed-value.Pre
+
+abbrev signed-value-below : ℕ → In 3 signed-value-kinds.ps
+signed-value-below t = and 3 signed-value-kinds.ps (falls 3 signed-value-kinds.ps _<_ μ-signed-value t) signed-value.Pre
+
+-- THE READERS
+
+abbrev additive-expression-Inv-loop : additive-expression-lts.InvT-loop
+additive-expression-Inv-loop text toks events₀ q₀ lhs₀ events q lhs = Chained (input text toks) product term q₀ events₀ lhs₀ q events lhs
+
+abbrev additive-expression-μ-loop : additive-expression-lts.MeasureT-loop
+additive-expression-μ-loop text toks events₀ q₀ lhs₀ events q lhs = μ (input text toks) q
+
+abbrev additive-expression-calls : ℕ → additive-expression-lts.Claims
+additive-expression-calls t = (
+  multiplicative-expression-below t,
+  multiplicative-expression.Post,
+  at-sign-reads.Asked,
+  at-sign-reads.Learnt,
+  precede-reads.Asked,
+  precede-reads.Learnt,
+  bump-any-reads.Asked,
+  bump-any-reads.Learnt,
+  complete-reads.Asked,
+  complete-reads.Learnt,
+)
+
+additive-expression-returns-2 : (t : ℕ) →
+    additive-expression-lts.Need-returns-2 (additive-expression-calls t) (additive-expression-at t) additive-expression.Post additive-expression-Inv-loop additive-expression-μ-loop
+unfolding ones first null takes
+additive-expression-returns-2 t c =
+    let at-at-sign = c .before in
+    let at-loop = at-at-sign .before in
+    let at-lhs = at-loop .before .before .before in
+    let at-multiplicative-expression = at-lhs .before .before .before .before in
+    c-done (at-loop .loop .inv .1 _ _ (told (at-lhs .lhs .given .1) (at-multiplicative-expression .multiplicative-expression .ensures)))
+    (sym (at-at-sign .at-sign .ensures) ∙ c .if1 .left)
+
+additive-expression-done : {M : Type 1} (t : ℕ) →
+    additive-expression-lts.Closed (additive-expression-calls t) (additive-expression-at t) additive-expression.Post M
+unfolding ones first null takes
+additive-expression-done t =
+    additive-expression-lts.spec (additive-expression-calls t) (additive-expression-at t) additive-expression.Post additive-expression-Inv-loop
+    additive-expression-μ-loop
+    (λ c κs.
+    let at-pre = c .before .before .before .before in
+    omega (arith, at-pre .pre .0))
+    (λ c. search needs)
+    (λ c. search needs)
+    (λ c. search needs)
+    (λ c.
+    let at-multiplicative-expression = c .before .before .before .before in
+    untold (c .enum-told .given .1)
+    (c-none single-product (told (c .enum-told .given .1) (at-multiplicative-expression .multiplicative-expression .ensures))))
+    (λ c. (refl, λ p₀ b₀ x. c-holds single-product x))
+    (λ c κs. search needs) (λ c κs. search needs) (λ c κs. search needs)
+    (λ c κs.
+    let at-bump-any = c .before .before .before in
+    let at-precede = at-bump-any .before .before .before .before in
+    let at-loop = at-precede .before .before .before .before in
+    let at-multiplicative-expression = at-loop .before .before .before .before .before .before .before in
+    let at-pre = at-multiplicative-expression .before .before .before .before .before in
+    omega (
+      arith,
+      at-pre .pre .0,
+      read-left (at-bump-any .bump-any .ensures 0),
+      preceded-left _ (at-precede .precede .ensures),
+      at-loop .loop .inv .0,
+      read-left (at-multiplicative-expression .multiplicative-expression .ensures .reads),
+    ))
+    (λ c κs. search needs)
+    (λ c.
+    let at-complete = c .before .before .before .before in
+    let at-multiplicative-expression2 = at-complete .before .before .before .before in
+    let at-bump-any = at-multiplicative-expression2 .before .before .before .before in
+    let at-precede = at-bump-any .before .before .before .before in
+    let at-if1 = at-precede .before .before in
+    let at-at-sign = at-if1 .before in
+    c-less {Q = term} _ refl (sym (at-at-sign .at-sign .ensures) ∙ at-if1 .if1 .taken) (at-precede .precede .ensures)
+    (seq-at same
+    (bumped-after _ (at-precede .precede .ensures) (sym (at-at-sign .at-sign .ensures) ∙ at-if1 .if1 .taken) (at-bump-any .bump-any .ensures _))
+    (at-multiplicative-expression2 .multiplicative-expression2 .ensures .reads)) (at-complete .complete .ensures))
+    (λ c.
+    let at-complete = c .before .before .before .before in
+    let at-multiplicative-expression2 = at-complete .before .before .before .before in
+    let at-bump-any = at-multiplicative-expression2 .before .before .before .before in
+    let at-precede = at-bump-any .before .before .before .before in
+    let at-if1 = at-precede .before .before in
+    let at-at-sign = at-if1 .before in
+    let at-loop = at-at-sign .before in (
+      completed-left (at-complete .complete .ensures) ∙ read-left (at-multiplicative-expression2 .multiplicative-expression2 .ensures .reads) ∙
+          read-left (at-bump-any .bump-any .ensures 0) ∙ preceded-left _ (at-precede .precede .ensures) ∙ at-loop .loop .inv .0,
+      λ p₀ b₀ x. link-at _ refl (at-loop .loop .inv .1 p₀ b₀ x) (sym (at-at-sign .at-sign .ensures) ∙ at-if1 .if1 .taken) (at-precede .precede .ensures)
+          (seq-at same
+          (bumped-after _ (at-precede .precede .ensures) (sym (at-at-sign .at-sign .ensures) ∙ at-if1 .if1 .taken) (at-bump-any .bump-any .ensures _))
+          (at-multiplicative-expression2 .multiplicative-expression2 .ensures .reads)) (at-complete .complete .ensures),
+    ))
+    (λ c. read-long (additive-expression-returns-2 t c .reads))
+    (additive-expression-returns-2 t)
+
+abbrev delta-value-calls : ℕ → delta-value-lts.Claims
+delta-value-calls t = (
+  at-reads.Asked,
+  at-reads.Learnt,
+  start-reads.Asked,
+  start-reads.Learnt,
+  bump-reads.Asked,
+  bump-reads.Learnt,
+  additive-expression-below t,
+  additive-expression.Post,
+  complete-reads.Asked,
+  complete-reads.Learnt,
+)
+
+delta-value-returns : (t : ℕ) → delta-value-lts.Need-returns (delta-value-calls t) (delta-value-at t) delta-value.Post
+unfolding ones first null
+delta-value-returns t c =
+    let at-complete = c .before .before .before in
+    let at-additive-expression = at-complete .before .before .before .before in
+    let at-bump = at-additive-expression .before .before .before .before in
+    let at-start = at-bump .before .before .before .before in
+    let at-if1 = at-start .before .before in
+    let at-at = at-if1 .before in
+    λ o. r-opt-yes (sym (at-at .at .ensures) ∙ at-if1 .if1 .taken)
+    (inside-at same (at-start .start .ensures) (seq-at same (at-bump .bump .ensures _) (at-additive-expression .additive-expression .ensures .reads))
+    (at-complete .complete .ensures))
+
+delta-value-done : {M : Type 1} (t : ℕ) → delta-value-lts.Closed (delta-value-calls t) (delta-value-at t) delta-value.Post M
+unfolding ones first null
+delta-value-done t =
+    delta-value-lts.spec (delta-value-calls t) (delta-value-at t) delta-value.Post
+    (λ c κs. search needs) (λ c κs. search needs) (λ c κs. search needs)
+    (λ c κs.
+    let at-bump = c .before .before .before in
+    let at-start = at-bump .before .before .before .before in
+    let at-pre = at-start .before .before .before .before .before .before .before in
+    omega (arith, at-pre .pre .0, read-left (at-bump .bump .ensures 0), started-left (at-start .start .ensures)))
+    (λ c κs. search needs)
+    (λ c. read-long (delta-value-returns t c free))
+    (delta-value-returns t)
+    (λ c.
+    let at-at = c .before in
+    λ o. r-opt-no (sym (at-at .at .ensures) ∙ c .if1 .left))
+
+abbrev list-value-Inv-loop : list-value-lts.InvT-loop
+list-value-Inv-loop text toks events₀ s q₀ events q = Turning (input text toks) (suc (q₀ .left)) next-item q₀ events₀ q events
+
+abbrev list-value-μ-loop : list-value-lts.MeasureT-loop
+list-value-μ-loop text toks events₀ s q₀ events q = μ (input text toks) q
+
+abbrev list-value-calls : ℕ → list-value-lts.Claims
+list-value-calls t = (
+  start-reads.Asked,
+  start-reads.Learnt,
+  bump-reads.Asked,
+  bump-reads.Learnt,
+  at-reads.Asked,
+  at-reads.Learnt,
+  complete-reads.Asked,
+  complete-reads.Learnt,
+  property-expression-below t,
+  property-expression.Post,
+  expect-reads.Asked,
+  expect-reads.Learnt,
+)
+
+list-value-returns : (t : ℕ) → list-value-lts.Need-returns (list-value-calls t) (list-value-at t) list-value.Post list-value-Inv-loop list-value-μ-loop
+unfolding ones first null takes
+list-value-returns t c =
+    let at-complete = c .before .before in
+    let at-bump2 = at-complete .before .before .before .before in
+    let at-if1 = at-bump2 .before .before in
+    let at-at = at-if1 .before in
+    let at-bump = at-at .before .before .before in
+    let at-start = at-bump .before .before .before .before in
+    node-at suc (at-start .start .ensures)
+    (seq-at suc (at-bump .bump .ensures _) (r-until-at-once (sym (at-at .at .ensures) ∙ at-if1 .if1 .taken) (at-bump2 .bump2 .ensures _)))
+    (at-complete .complete .ensures)
+
+list-value-returns-2 : (t : ℕ) →
+    list-value-lts.Need-returns-2 (list-value-calls t) (list-value-at t) list-value.Post list-value-Inv-loop list-value-μ-loop
+unfolding ones first null takes
+list-value-returns-2 t c =
+    let at-complete2 = c .before .before in
+    let at-expect = at-complete2 .before .before .before .before in
+    let at-if2 = at-expect .before .before in
+    let at-at2 = at-if2 .before in
+    let at-loop = at-at2 .before in
+    let at-property-expression = at-loop .before .before .before in
+    let at-if1 = at-property-expression .before .before in
+    let at-at = at-if1 .before in
+    let at-bump = at-at .before .before .before in
+    let at-start = at-bump .before .before .before .before in
+    node-at suc (at-start .start .ensures)
+    (seq-at suc (at-bump .bump .ensures _)
+    (r-until (sym (at-at .at .ensures) ∙ at-if1 .if1 .left)
+    (seq-at suc (r-rule Expression (at-property-expression .property-expression .ensures))
+    (w-done (at-loop .loop .inv) (sym (at-at2 .at2 .ensures) ∙ at-if2 .if2 .left))) (at-expect .expect .ensures _)))
+    (at-complete2 .complete2 .ensures)
+
+list-value-done : {M : Type 1} (t : ℕ) → list-value-lts.Closed (list-value-calls t) (list-value-at t) list-value.Post M
+unfolding ones first null takes
+list-value-done t =
+    list-value-lts.spec (list-value-calls t) (list-value-at t) list-value.Post list-value-Inv-loop list-value-μ-loop
+    (λ c κs. search needs) (λ c κs. search needs) (λ c κs. search needs) (λ c κs. search needs) (λ c κs. search needs)
+    (λ c. read-long (list-value-returns t c .reads))
+    (list-value-returns t)
+    (λ c κs.
+    let at-bump = c .before .before .before .before .before in
+    let at-start = at-bump .before .before .before .before in
+    let at-pre = at-start .before .before .before .before .before in
+    omega (arith, at-pre .pre .0, read-left (at-bump .bump .ensures 0), started-left (at-start .start .ensures)))
+    (λ c. w-holds)
+    (λ c κs. search needs) (λ c κs. search needs)
+    (λ c κs.
+    let at-bump3 = c .before .before .before in
+    let at-loop = at-bump3 .before .before .before .before in
+    let at-property-expression = at-loop .before .before .before in
+    let at-bump = at-property-expression .before .before .before .before .before .before in
+    let at-start = at-bump .before .before .before .before in
+    let at-pre = at-start .before .before .before .before .before in
+    omega (
+      arith,
+      at-pre .pre .0,
+      read-left (at-bump3 .bump3 .ensures 0),
+      at-loop .loop .inv .left,
+      read-left (at-property-expression .property-expression .ensures),
+      read-left (at-bump .bump .ensures 0),
+      started-left (at-start .start .ensures),
+    ))
+    (λ c.
+    let at-property-expression2 = c .before .before in
+    let at-bump3 = at-property-expression2 .before .before .before .before in
+    let at-if2 = at-bump3 .before .before in
+    let at-at2 = at-if2 .before in
+    w-less {P = next-item} refl (sym (at-at2 .at2 .ensures) ∙ at-if2 .if2 .taken)
+    (seq-at suc (at-bump3 .bump3 .ensures _) (r-rule Expression (at-property-expression2 .property-expression2 .ensures))))
+    (λ c.
+    let at-property-expression2 = c .before .before in
+    let at-bump3 = at-property-expression2 .before .before .before .before in
+    let at-if2 = at-bump3 .before .before in
+    let at-at2 = at-if2 .before in
+    let at-loop = at-at2 .before in
+    again-at suc refl (at-loop .loop .inv) (sym (at-at2 .at2 .ensures) ∙ at-if2 .if2 .taken)
+    (seq-at suc (at-bump3 .bump3 .ensures _) (r-rule Expression (at-property-expression2 .property-expression2 .ensures))))
+    (λ c κs. search needs) (λ c κs. search needs)
+    (λ c. read-long (list-value-returns-2 t c .reads))
+    (list-value-returns-2 t)
+
+abbrev multiplicative-expression-Inv-loop : multiplicative-expression-lts.InvT-loop
+multiplicative-expression-Inv-loop text toks events₀ q₀ lhs₀ events q lhs = Chained (input text toks) operand factor q₀ events₀ lhs₀ q events lhs
+
+abbrev multiplicative-expression-μ-loop : multiplicative-expression-lts.MeasureT-loop
+multiplicative-expression-μ-loop text toks events₀ q₀ lhs₀ events q lhs = μ (input text toks) q
+
+abbrev multiplicative-expression-calls : ℕ → multiplicative-expression-lts.Claims
+multiplicative-expression-calls t = (
+  property-expression-primary-below t,
+  property-expression-primary.Post,
+  at-factor-reads.Asked,
+  at-factor-reads.Learnt,
+  precede-reads.Asked,
+  precede-reads.Learnt,
+  bump-any-reads.Asked,
+  bump-any-reads.Learnt,
+  complete-reads.Asked,
+  complete-reads.Learnt,
+)
+
+multiplicative-expression-returns-2 : (t : ℕ) →
+    multiplicative-expression-lts.Need-returns-2 (multiplicative-expression-calls t) (multiplicative-expression-at t) multiplicative-expression.Post multiplicative-expression-Inv-loop multiplicative-expression-μ-loop
+unfolding ones first null takes
+multiplicative-expression-returns-2 t c =
+    let at-at-factor = c .before in
+    let at-loop = at-at-factor .before in
+    let at-lhs = at-loop .before .before .before in
+    let at-property-expression-primary = at-lhs .before .before .before .before in
+    c-done (at-loop .loop .inv .1 _ _ (told (at-lhs .lhs .given .1) (at-property-expression-primary .property-expression-primary .ensures)))
+    (sym (at-at-factor .at-factor .ensures) ∙ c .if1 .left)
+
+multiplicative-expression-done : {M : Type 1} (t : ℕ) →
+    multiplicative-expression-lts.Closed (multiplicative-expression-calls t) (multiplicative-expression-at t) multiplicative-expression.Post M
+unfolding ones first null takes
+multiplicative-expression-done t =
+    multiplicative-expression-lts.spec (multiplicative-expression-calls t) (multiplicative-expression-at t) multiplicative-expression.Post
+    multiplicative-expression-Inv-loop multiplicative-expression-μ-loop
+    (λ c κs.
+    let at-pre = c .before .before .before .before in
+    omega (arith, at-pre .pre .0))
+    (λ c. search needs)
+    (λ c. search needs)
+    (λ c. search needs)
+    (λ c.
+    let at-property-expression-primary = c .before .before .before .before in
+    untold (c .enum-told .given .1)
+    (c-none single-operand (told (c .enum-told .given .1) (at-property-expression-primary .property-expression-primary .ensures))))
+    (λ c. (refl, λ p₀ b₀ x. c-holds single-operand x))
+    (λ c κs. search needs) (λ c κs. search needs) (λ c κs. search needs)
+    (λ c κs.
+    let at-bump-any = c .before .before .before in
+    let at-precede = at-bump-any .before .before .before .before in
+    let at-loop = at-precede .before .before .before .before in
+    let at-property-expression-primary = at-loop .before .before .before .before .before .before .before in
+    let at-pre = at-property-expression-primary .before .before .before .before .before in
+    omega (
+      arith,
+      at-pre .pre .0,
+      read-left (at-bump-any .bump-any .ensures 0),
+      preceded-left _ (at-precede .precede .ensures),
+      at-loop .loop .inv .0,
+      read-left (at-property-expression-primary .property-expression-primary .ensures .reads),
+    ))
+    (λ c κs. search needs)
+    (λ c.
+    let at-complete = c .before .before .before .before in
+    let at-property-expression-primary2 = at-complete .before .before .before .before in
+    let at-bump-any = at-property-expression-primary2 .before .before .before .before in
+    let at-precede = at-bump-any .before .before .before .before in
+    let at-if1 = at-precede .before .before in
+    let at-at-factor = at-if1 .before in
+    c-less {Q = factor} _ refl (sym (at-at-factor .at-factor .ensures) ∙ at-if1 .if1 .taken) (at-precede .precede .ensures)
+    (seq-at same
+    (bumped-after _ (at-precede .precede .ensures) (sym (at-at-factor .at-factor .ensures) ∙ at-if1 .if1 .taken) (at-bump-any .bump-any .ensures _))
+    (at-property-expression-primary2 .property-expression-primary2 .ensures .reads)) (at-complete .complete .ensures))
+    (λ c.
+    let at-complete = c .before .before .before .before in
+    let at-property-expression-primary2 = at-complete .before .before .before .before in
+    let at-bump-any = at-property-expression-primary2 .before .before .before .before in
+    let at-precede = at-bump-any .before .before .before .before in
+    let at-if1 = at-precede .before .before in
+    let at-at-factor = at-if1 .before in
+    let at-loop = at-at-factor .before in (
+      completed-left (at-complete .complete .ensures) ∙ read-left (at-property-expression-primary2 .property-expression-primary2 .ensures .reads) ∙
+          read-left (at-bump-any .bump-any .ensures 0) ∙ preceded-left _ (at-precede .precede .ensures) ∙ at-loop .loop .inv .0,
+      λ p₀ b₀ x. link-at _ refl (at-loop .loop .inv .1 p₀ b₀ x) (sym (at-at-factor .at-factor .ensures) ∙ at-if1 .if1 .taken)
+          (at-precede .precede .ensures)
+          (seq-at same
+          (bumped-after _ (at-precede .precede .ensures) (sym (at-at-factor .at-factor .ensures) ∙ at-if1 .if1 .taken) (at-bump-any .bump-any .ensures _))
+          (at-property-expression-primary2 .property-expression-primary2 .ensures .reads)) (at-complete .complete .ensures),
+    ))
+    (λ c. read-long (multiplicative-expression-returns-2 t c .reads))
+    (multiplicative-expression-returns-2 t)
+
+abbrev not-value-calls : ℕ → not-value-lts.Claims
+not-value-calls t = (
+  start-reads.Asked,
+  start-reads.Learnt,
+  bump-reads.Asked,
+  bump-reads.Learnt,
+  property-expression-below t,
+  property-expression.Post,
+  complete-reads.Asked,
+  complete-reads.Learnt,
+)
+
+not-value-returns : (t : ℕ) → not-value-lts.Need-returns (not-value-calls t) (not-value-at t) not-value.Post
+unfolding ones
+not-value-returns t c =
+    let at-complete = c .before .before in
+    let at-property-expression = at-complete .before .before .before .before in
+    let at-bump = at-property-expression .before .before .before .before in
+    let at-start = at-bump .before .before .before .before in
+    node-at suc (at-start .start .ensures) (seq-at suc (at-bump .bump .ensures _) (r-negated (at-property-expression .property-expression .ensures)))
+    (at-complete .complete .ensures)
+
+not-value-done : {M : Type 1} (t : ℕ) → not-value-lts.Closed (not-value-calls t) (not-value-at t) not-value.Post M
+unfolding ones
+not-value-done t =
+    not-value-lts.spec (not-value-calls t) (not-value-at t) not-value.Post
+    (λ c κs. search needs) (λ c κs. search needs)
+    (λ c κs.
+    let at-bump = c .before .before .before in
+    let at-start = at-bump .before .before .before .before in
+    let at-pre = at-start .before .before .before .before .before in
+    omega (arith, at-pre .pre .0, read-left (at-bump .bump .ensures 0), started-left (at-start .start .ensures)))
+    (λ c κs. search needs)
+    (λ c. read-long (not-value-returns t c .reads))
+    (not-value-returns t)
+
+abbrev opener-value-calls : ℕ → opener-value-lts.Claims
+opener-value-calls t = (
+  too-deep-reads.Asked,
+  too-deep-reads.Learnt,
+  with-left-reads.Asked,
+  with-left-reads.Learnt,
+  current-reads.Asked,
+  current-reads.Learnt,
+  not-value-below t,
+  not-value.Post,
+  closed-reads.Asked,
+  closed-reads.Learnt,
+  list-value-below t,
+  list-value.Post,
+  record-value-below t,
+  record-value.Post,
+  signed-value-below t,
+  signed-value.Post,
+)
+
+opener-value-done : {M : Type 1} (t : ℕ) → opener-value-lts.Closed (opener-value-calls t) (opener-value-at t) opener-value.Post M
+unfolding read step first null ones
+opener-value-done t =
+    opener-value-lts.spec (opener-value-calls t) (opener-value-at t) opener-value.Post
+    (λ c κs. search needs)
+    (λ c.
+    let at-if1 = c .before in
+    o-none nested (λ n h. rw (at-if1 .if1 .taken) refl) (r-deep (at-if1 .if1 .taken) (c .too-deep .ensures _)))
+    (λ c. search needs)
+    (λ c κs. search needs) (λ c κs. search needs)
+    (λ c κs.
+    let at-with-left = c .before .before .before in
+    let at-if1 = at-with-left .before in
+    let at-pre = at-if1 .before .before .before .before in
+    omega (arith, at-pre .pre .0, at-if1 .if1 .left, ap (λ (q : Parser). q .left) (at-with-left .with-left .ensures)))
+    (λ c κs. search needs)
+    (λ c κs.
+    let at-with-left = c .before .before .before in
+    let at-if1 = at-with-left .before in
+    let at-pre = at-if1 .before .before .before .before in
+    omega (arith, at-pre .pre .0, at-if1 .if1 .left, ap (λ (q : Parser). q .left) (at-with-left .with-left .ensures)))
+    (λ c κs. search needs)
+    (λ c κs.
+    let at-with-left = c .before .before .before in
+    let at-if1 = at-with-left .before in
+    let at-pre = at-if1 .before .before .before .before in
+    omega (arith, at-pre .pre .0, at-if1 .if1 .left, ap (λ (q : Parser). q .left) (at-with-left .with-left .ensures)))
+    (λ c κs. search needs)
+    (λ c κs.
+    let at-with-left = c .before .before .before in
+    let at-if1 = at-with-left .before in
+    let at-pre = at-if1 .before .before .before .before in
+    omega (arith, at-pre .pre .0, at-if1 .if1 .left, ap (λ (q : Parser). q .left) (at-with-left .with-left .ensures)))
+    (λ c κs. search needs)
+    (λ c. search needs)
+    (λ c.
+    let at-not-value = c .before .before .before in
+    let at-match = at-not-value .before .before in
+    let at-current = at-match .before in
+    let at-with-left = at-current .before in
+    let at-if1 = at-with-left .before in
+    opened-by 108 refl (λ n ys. refl) (at-if1 .if1 .left) (at-with-left .with-left .ensures) (at-current .current .ensures) (at-match .match .keys1)
+    (at-not-value .not-value .ensures) (c .closed .ensures))
+    (λ c. search needs)
+    (λ c.
+    let at-list-value = c .before .before .before in
+    let at-match = at-list-value .before .before in
+    let at-current = at-match .before in
+    let at-with-left = at-current .before in
+    let at-if1 = at-with-left .before in
+    opened-by 10 refl (λ n ys. refl) (at-if1 .if1 .left) (at-with-left .with-left .ensures) (at-current .current .ensures) (at-match .match .keys2)
+    (at-list-value .list-value .ensures) (c .closed2 .ensures))
+    (λ c. search needs)
+    (λ c.
+    let at-record-value = c .before .before .before in
+    let at-match = at-record-value .before .before in
+    let at-current = at-match .before in
+    let at-with-left = at-current .before in
+    let at-if1 = at-with-left .before in
+    opened-by 14 refl (λ n ys. refl) (at-if1 .if1 .left) (at-with-left .with-left .ensures) (at-current .current .ensures) (at-match .match .keys3)
+    (at-record-value .record-value .ensures) (c .closed3 .ensures))
+    (λ c. search needs)
+    (λ c.
+    let at-signed-value = c .before .before .before in
+    let at-match = at-signed-value .before .before in
+    let at-current = at-match .before in
+    let at-with-left = at-current .before in
+    let at-if1 = at-with-left .before in
+    opened-else (at-if1 .if1 .left) (at-with-left .with-left .ensures) (at-current .current .ensures) (at-match .match .rest)
+    (at-signed-value .signed-value .ensures) (c .closed4 .ensures))
+
+abbrev property-expression-calls : ℕ → property-expression-lts.Claims
+property-expression-calls t = (
+  additive-expression-below t,
+  additive-expression.Post,
+  at-reads.Asked,
+  at-reads.Learnt,
+  precede-reads.Asked,
+  precede-reads.Learnt,
+  bump-reads.Asked,
+  bump-reads.Learnt,
+  delta-value-below t,
+  delta-value.Post,
+  complete-reads.Asked,
+  complete-reads.Learnt,
+)
+
+property-expression-returns-2 : (t : ℕ) →
+    property-expression-lts.Need-returns-2 (property-expression-calls t) (property-expression-at t) property-expression.Post
+unfolding ones first null
+property-expression-returns-2 t c =
+    let at-complete = c .before .before .before in
+    let at-delta-value = at-complete .before .before .before .before in
+    let at-additive-expression2 = at-delta-value .before .before .before .before in
+    let at-bump = at-additive-expression2 .before .before .before .before in
+    let at-precede = at-bump .before .before .before .before in
+    let at-if1 = at-precede .before .before in
+    let at-at = at-if1 .before in
+    let at-lhs = at-at .before .before in
+    let at-additive-expression = at-lhs .before .before .before .before .before in
+    turn-at single-sum (told (at-lhs .lhs .given .1) (at-additive-expression .additive-expression .ensures))
+    (sym (at-at .at .ensures) ∙ at-if1 .if1 .taken) (at-precede .precede .ensures)
+    (seq-at same (at-bump .bump .ensures _)
+    (seq-at same (at-additive-expression2 .additive-expression2 .ensures .reads) (at-delta-value .delta-value .ensures free)))
+    (at-complete .complete .ensures)
+
+property-expression-done : {M : Type 1} (t : ℕ) →
+    property-expression-lts.Closed (property-expression-calls t) (property-expression-at t) property-expression.Post M
+unfolding ones first null
+property-expression-done t =
+    property-expression-lts.spec (property-expression-calls t) (property-expression-at t) property-expression.Post
+    (λ c κs.
+    let at-pre = c .before .before .before .before in
+    omega (arith, at-pre .pre .0))
+    (λ c. search needs)
+    (λ c. search needs)
+    (λ c. search needs)
+    (λ c.
+    let at-additive-expression = c .before .before .before .before .before in
+    x-none single-sum (told (c .enum-told .given .1) (at-additive-expression .additive-expression .ensures)))
+    (λ c κs. search needs) (λ c κs. search needs) (λ c κs. search needs)
+    (λ c κs.
+    let at-bump = c .before .before .before in
+    let at-precede = at-bump .before .before .before .before in
+    let at-additive-expression = at-precede .before .before .before .before .before .before .before .before .before .before in
+    let at-pre = at-additive-expression .before .before .before .before .before in
+    omega (
+      arith,
+      at-pre .pre .0,
+      read-left (at-bump .bump .ensures 0),
+      preceded-left _ (at-precede .precede .ensures),
+      read-left (at-additive-expression .additive-expression .ensures .reads),
+    ))
+    (λ c κs.
+    let at-additive-expression2 = c .before .before .before in
+    let at-bump = at-additive-expression2 .before .before .before .before in
+    let at-precede = at-bump .before .before .before .before in
+    let at-additive-expression = at-precede .before .before .before .before .before .before .before .before .before .before in
+    let at-pre = at-additive-expression .before .before .before .before .before in
+    omega (
+      arith,
+      at-pre .pre .0,
+      read-left (at-additive-expression2 .additive-expression2 .ensures .reads),
+      read-left (at-bump .bump .ensures 0),
+      preceded-left _ (at-precede .precede .ensures),
+      read-left (at-additive-expression .additive-expression .ensures .reads),
+    ))
+    (λ c κs. search needs)
+    (λ c. read-long (property-expression-returns-2 t c))
+    (property-expression-returns-2 t)
+    (λ c. search needs)
+    (λ c.
+    let at-at = c .before in
+    let at-lhs = at-at .before .before in
+    let at-additive-expression = at-lhs .before .before .before .before .before in
+    x-stay single-sum (told (at-lhs .lhs .given .1) (at-additive-expression .additive-expression .ensures)) (sym (at-at .at .ensures) ∙ c .if1 .left))
+
+abbrev property-expression-primary-calls : ℕ → property-expression-primary-lts.Claims
+property-expression-primary-calls t = (
+  at-opener-reads.Asked,
+  at-opener-reads.Learnt,
+  opener-value-below t,
+  opener-value.Post,
+  current-reads.Asked,
+  current-reads.Learnt,
+  integer-value-reads.Asked,
+  integer-value-reads.Learnt,
+  operand-reads.Asked,
+  operand-reads.Learnt,
+  real-value-reads.Asked,
+  real-value-reads.Learnt,
+  string-value-reads.Asked,
+  string-value-reads.Learnt,
+  boolean-value-reads.Asked,
+  boolean-value-reads.Learnt,
+  classifier-value-reads.Asked,
+  classifier-value-reads.Learnt,
+  reference-value-reads.Asked,
+  reference-value-reads.Learnt,
+  computed-value-reads.Asked,
+  computed-value-reads.Learnt,
+  named-value-reads.Asked,
+  named-value-reads.Learnt,
+  c-style-value-reads.Asked,
+  c-style-value-reads.Learnt,
+  error-reads.Asked,
+  error-reads.Learnt,
+)
+
+property-expression-primary-done : {M : Type 1} (t : ℕ) →
+    property-expression-primary-lts.Closed (property-expression-primary-calls t) (property-expression-primary-at t) property-expression-primary.Post M
+unfolding read step first null ones names keywords take-one take-any take-wrong
+property-expression-primary-done t =
+    property-expression-primary-lts.spec (property-expression-primary-calls t) (property-expression-primary-at t) property-expression-primary.Post
+    (λ c κs. search needs)
+    (λ c κs.
+    let at-pre = c .before .before .before .before .before .before in
+    omega (arith, at-pre .pre .0))
+    (λ c. search needs)
+    (λ c.
+    let at-opener-value = c .before .before in
+    let at-if1 = at-opener-value .before .before in
+    let at-at-opener = at-if1 .before in
+    opener-operand (sym (at-at-opener .at-opener .ensures) ∙ at-if1 .if1 .taken) (at-opener-value .opener-value .ensures))
+    (λ c κs. search needs) (λ c κs. search needs) (λ c κs. search needs) (λ c κs. search needs) (λ c κs. search needs) (λ c κs. search needs)
+    (λ c κs. search needs) (λ c κs. search needs) (λ c κs. search needs) (λ c κs. search needs) (λ c κs. search needs) (λ c κs. search needs)
+    (λ c κs. search needs) (λ c κs. search needs) (λ c κs. search needs) (λ c κs. search needs) (λ c κs. search needs) (λ c κs. search needs)
+    (λ c κs. search needs) (λ c κs. search needs) (λ c κs. search needs) (λ c κs. search needs)
+    (λ c. search needs)
+    (λ c.
+    let at-integer-value = c .before .before .before in
+    let at-match = at-integer-value .before .before in
+    let at-current = at-match .before in
+    arm 30 refl (λ n ys. refl) (at-current .current .ensures) (at-match .match .keys1) (at-integer-value .integer-value .ensures _) (c .operand .ensures))
+    (λ c. search needs)
+    (λ c.
+    let at-real-value = c .before .before .before in
+    let at-match = at-real-value .before .before in
+    let at-current = at-match .before in
+    arm 31 refl (λ n ys. refl) (at-current .current .ensures) (at-match .match .keys2) (at-real-value .real-value .ensures _) (c .operand2 .ensures))
+    (λ c. search needs)
+    (λ c.
+    let at-string-value = c .before .before .before in
+    let at-match = at-string-value .before .before in
+    let at-current = at-match .before in
+    arm 32 refl (λ n ys. refl) (at-current .current .ensures) (at-match .match .keys3) (at-string-value .string-value .ensures _) (c .operand3 .ensures))
+    (λ c. search needs)
+    (λ c.
+    let at-boolean-value = c .before .before .before in
+    let at-match = at-boolean-value .before .before in
+    let at-current = at-match .before in
+    arm 106 refl (λ n ys. refl) (at-current .current .ensures) (at-match .match .keys4) (at-boolean-value .boolean-value .ensures _)
+    (c .operand4 .ensures))
+    (λ c. search needs)
+    (λ c.
+    let at-boolean-value2 = c .before .before .before in
+    let at-match = at-boolean-value2 .before .before in
+    let at-current = at-match .before in
+    arm 107 refl (λ n ys. refl) (at-current .current .ensures) (at-match .match .keys5) (at-boolean-value2 .boolean-value2 .ensures _)
+    (c .operand5 .ensures))
+    (λ c. search needs)
+    (λ c.
+    let at-classifier-value = c .before .before .before in
+    let at-match = at-classifier-value .before .before in
+    let at-current = at-match .before in
+    arm 91 refl (λ n ys. refl) (at-current .current .ensures) (at-match .match .keys6) (at-classifier-value .classifier-value .ensures)
+    (c .operand6 .ensures))
+    (λ c. search needs)
+    (λ c.
+    let at-reference-value = c .before .before .before in
+    let at-match = at-reference-value .before .before in
+    let at-current = at-match .before in
+    arm 92 refl (λ n ys. refl) (at-current .current .ensures) (at-match .match .keys7) (at-reference-value .reference-value .ensures _)
+    (c .operand7 .ensures))
+    (λ c. search needs)
+    (λ c.
+    let at-computed-value = c .before .before .before in
+    let at-match = at-computed-value .before .before in
+    let at-current = at-match .before in
+    arm 94 refl (λ n ys. refl) (at-current .current .ensures) (at-match .match .keys8) (at-computed-value .computed-value .ensures _)
+    (c .operand8 .ensures))
+    (λ c. search needs)
+    (λ c.
+    let at-named-value = c .before .before .before in
+    let at-match = at-named-value .before .before in
+    let at-current = at-match .before in
+    arm 33 refl (λ n ys. refl) (at-current .current .ensures) (at-match .match .keys9) (at-named-value .named-value .ensures _) (c .operand9 .ensures))
+    (λ c. search needs)
+    (λ c.
+    let at-c-style-value = c .before .before .before in
+    let at-match = at-c-style-value .before .before in
+    let at-current = at-match .before in
+    arm 258 refl (λ n ys. refl) (at-current .current .ensures) (at-match .match .keys10) (at-c-style-value .c-style-value .ensures _)
+    (c .operand10 .ensures))
+    (λ c. search needs)
+    (λ c.
+    let at-error = c .before .before in
+    let at-match = at-error .before .before in
+    let at-current = at-match .before in
+    let at-if1 = at-current .before in
+    let at-at-opener = at-if1 .before in
+    let at-args = at-at-opener .before .before .before .before in
+    let a = (at-args .args) in no-operand
+    (stands-neither (input (a .text .now) (a .toks .now)) (ones openers) (ones others) (a .p)
+    (sym (at-at-opener .at-opener .ensures) ∙ at-if1 .if1 .left)
+    (none-stands (input (a .text .now) (a .toks .now)) (a .p) others refl (at-current .current .ensures) (at-match .match .rest)))
+    (r-fail (at-error .error .ensures)))
+
+abbrev record-value-Inv-loop : record-value-lts.InvT-loop
+record-value-Inv-loop text toks events₀ s q₀ events q = Turning (input text toks) (suc (q₀ .left)) record-field q₀ events₀ q events
+
+abbrev record-value-μ-loop : record-value-lts.MeasureT-loop
+record-value-μ-loop text toks events₀ s q₀ events q = μ (input text toks) q
+
+abbrev record-value-calls : ℕ → record-value-lts.Claims
+record-value-calls t = (
+  start-reads.Asked,
+  start-reads.Learnt,
+  bump-reads.Asked,
+  bump-reads.Learnt,
+  at-reads.Asked,
+  at-reads.Learnt,
+  expect-reads.Asked,
+  expect-reads.Learnt,
+  property-expression-below t,
+  property-expression.Post,
+  complete-reads.Asked,
+  complete-reads.Learnt,
+)
+
+record-value-returns : (t : ℕ) →
+    record-value-lts.Need-returns (record-value-calls t) (record-value-at t) record-value.Post record-value-Inv-loop record-value-μ-loop
+unfolding ones first null takes
+record-value-returns t c =
+    let at-complete2 = c .before .before in
+    let at-expect3 = at-complete2 .before .before .before .before in
+    let at-if1 = at-expect3 .before .before in
+    let at-at = at-if1 .before in
+    let at-loop = at-at .before in
+    let at-bump = at-loop .before .before .before in
+    let at-start = at-bump .before .before .before .before in
+    node-at suc (at-start .start .ensures)
+    (seq-at suc (at-bump .bump .ensures _)
+    (seq-at suc (w-done (at-loop .loop .inv) (sym (at-at .at .ensures) ∙ at-if1 .if1 .left)) (at-expect3 .expect3 .ensures _)))
+    (at-complete2 .complete2 .ensures)
+
+record-value-done : {M : Type 1} (t : ℕ) → record-value-lts.Closed (record-value-calls t) (record-value-at t) record-value.Post M
+unfolding ones first null takes
+record-value-done t =
+    record-value-lts.spec (record-value-calls t) (record-value-at t) record-value.Post record-value-Inv-loop record-value-μ-loop
+    (λ c κs. search needs) (λ c κs. search needs)
+    (λ c. w-holds)
+    (λ c κs. search needs) (λ c κs. search needs) (λ c κs. search needs) (λ c κs. search needs)
+    (λ c κs.
+    let at-expect = c .before .before .before in
+    let at-bump2 = at-expect .before .before .before .before in
+    let at-start2 = at-bump2 .before .before .before .before in
+    let at-loop = at-start2 .before .before .before .before in
+    let at-bump = at-loop .before .before .before in
+    let at-start = at-bump .before .before .before .before in
+    let at-pre = at-start .before .before .before .before .before in
+    omega (
+      arith,
+      at-pre .pre .0,
+      read-left (at-expect .expect .ensures 0),
+      read-left (at-bump2 .bump2 .ensures 0),
+      started-left (at-start2 .start2 .ensures),
+      at-loop .loop .inv .left,
+      read-left (at-bump .bump .ensures 0),
+      started-left (at-start .start .ensures),
+    ))
+    (λ c κs. search needs) (λ c κs. search needs)
+    (λ c.
+    let at-complete = c .before .before .before in
+    let at-expect2 = at-complete .before .before .before .before in
+    let at-property-expression = at-expect2 .before .before .before .before in
+    let at-expect = at-property-expression .before .before .before .before in
+    let at-bump2 = at-expect .before .before .before .before in
+    let at-start2 = at-bump2 .before .before .before .before in
+    let at-if1 = at-start2 .before .before in
+    let at-at = at-if1 .before in
+    w-less {P = record-field} refl (sym (at-at .at .ensures) ∙ at-if1 .if1 .taken)
+    (inside-at suc (at-start2 .start2 .ensures)
+    (seq-at suc (at-bump2 .bump2 .ensures _)
+    (seq-at suc (at-expect .expect .ensures _)
+    (seq-at suc (r-rule Expression (at-property-expression .property-expression .ensures)) (at-expect2 .expect2 .ensures _))))
+    (at-complete .complete .ensures)))
+    (λ c.
+    let at-complete = c .before .before .before in
+    let at-expect2 = at-complete .before .before .before .before in
+    let at-property-expression = at-expect2 .before .before .before .before in
+    let at-expect = at-property-expression .before .before .before .before in
+    let at-bump2 = at-expect .before .before .before .before in
+    let at-start2 = at-bump2 .before .before .before .before in
+    let at-if1 = at-start2 .before .before in
+    let at-at = at-if1 .before in
+    let at-loop = at-at .before in
+    again-at suc refl (at-loop .loop .inv) (sym (at-at .at .ensures) ∙ at-if1 .if1 .taken)
+    (inside-at suc (at-start2 .start2 .ensures)
+    (seq-at suc (at-bump2 .bump2 .ensures _)
+    (seq-at suc (at-expect .expect .ensures _)
+    (seq-at suc (r-rule Expression (at-property-expression .property-expression .ensures)) (at-expect2 .expect2 .ensures _))))
+    (at-complete .complete .ensures)))
+    (λ c κs. search needs) (λ c κs. search needs)
+    (λ c. read-long (record-value-returns t c .reads))
+    (record-value-returns t)
+
+abbrev signed-value-calls : ℕ → signed-value-lts.Claims
+signed-value-calls t = (
+  start-reads.Asked,
+  start-reads.Learnt,
+  bump-any-reads.Asked,
+  bump-any-reads.Learnt,
+  property-expression-primary-below t,
+  property-expression-primary.Post,
+  complete-reads.Asked,
+  complete-reads.Learnt,
+)
+
+signed-value-returns : (t : ℕ) → signed-value-lts.Need-returns (signed-value-calls t) (signed-value-at t) signed-value.Post
+unfolding ones
+signed-value-returns t c =
+    let at-complete = c .before .before in
+    let at-property-expression-primary = at-complete .before .before .before .before in
+    let at-bump-any = at-property-expression-primary .before .before .before .before in
+    let at-start = at-bump-any .before .before .before .before in
+    node-at suc (at-start .start .ensures)
+    (seq-at suc (at-bump-any .bump-any .ensures _) (r-rule Operand (at-property-expression-primary .property-expression-primary .ensures .reads)))
+    (at-complete .complete .ensures)
+
+signed-value-done : {M : Type 1} (t : ℕ) → signed-value-lts.Closed (signed-value-calls t) (signed-value-at t) signed-value.Post M
+unfolding ones
+signed-value-done t =
+    signed-value-lts.spec (signed-value-calls t) (signed-value-at t) signed-value.Post
+    (λ c κs. search needs) (λ c κs. search needs)
+    (λ c κs.
+    let at-bump-any = c .before .before .before in
+    let at-start = at-bump-any .before .before .before .before in
+    let at-pre = at-start .before .before .before .before .before in
+    omega (arith, at-pre .pre .0, read-left (at-bump-any .bump-any .ensures 0), started-left (at-start .start .ensures)))
+    (λ c κs. search needs)
+    (λ c. read-long (signed-value-returns t c .reads))
+    (signed-value-returns t)
+
+pub +additive-expression+delta-value+list-value+multiplicative-expression+not-value+opener-value+property-expression+property-expression-primary+record-value+signed-value-spec :
+    {M : Type 1} → statement M
++additive-expression+delta-value+list-value+multiplicative-expression+not-value+opener-value+property-expression+property-expression-primary+record-value+signed-value-spec =
+    close μ-additive-expression μ-delta-value μ-list-value μ-multiplicative-expression μ-not-value μ-opener-value μ-property-expression
+    μ-property-expression-primary μ-record-value μ-signed-value
+    additive-expression-done delta-value-done list-value-done multiplicative-expression-done not-value-done opener-value-done property-expression-done
+    property-expression-primary-done record-value-done signed-value-done

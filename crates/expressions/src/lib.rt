@@ -1,0 +1,310 @@
+// Expressions: `property_expression` and what it calls, a cycle in which the openers left fall.
+use grammar::classifier_value;
+use parser::C_STYLE;
+use parser::Completed;
+use parser::Lhs;
+use parser::Operand;
+use parser::Parser;
+use parser::at;
+use parser::bump;
+use parser::bump_any;
+use parser::complete;
+use parser::current;
+use parser::error;
+use parser::expect;
+use parser::precede;
+use parser::start;
+use parser::too_deep;
+use parser::with_left;
+use syntax_kind::BINARY_EXPR;
+use syntax_kind::BOOLEAN_VALUE;
+use syntax_kind::CLASSIFIER_KW;
+use syntax_kind::COMMA;
+use syntax_kind::COMPUTE_KW;
+use syntax_kind::DELTA_KW;
+use syntax_kind::DELTA_VALUE;
+use syntax_kind::DOT_DOT;
+use syntax_kind::FALSE_KW;
+use syntax_kind::FAT_ARROW;
+use syntax_kind::IDENT;
+use syntax_kind::INTEGER_LIT;
+use syntax_kind::L_BRACKET;
+use syntax_kind::L_PAREN;
+use syntax_kind::LIST_VALUE;
+use syntax_kind::MINUS;
+use syntax_kind::NOT_KW;
+use syntax_kind::PLUS;
+use syntax_kind::PROPERTY_EXPRESSION;
+use syntax_kind::R_BRACKET;
+use syntax_kind::R_PAREN;
+use syntax_kind::RANGE_VALUE;
+use syntax_kind::REAL_LIT;
+use syntax_kind::RECORD_FIELD;
+use syntax_kind::RECORD_VALUE;
+use syntax_kind::REFERENCE_KW;
+use syntax_kind::SEMICOLON;
+use syntax_kind::SLASH;
+use syntax_kind::STAR;
+use syntax_kind::STRING_LIT;
+use syntax_kind::TRUE_KW;
+use values::boolean_value;
+use values::c_style_value;
+use values::computed_value;
+use values::integer_value;
+use values::named_value;
+use values::real_value;
+use values::reference_value;
+use values::string_value;
+ghost use mathlib.Core.Path.{_≡_};
+ghost use mathlib.Core.List.{[], _∷_};
+ghost use Prim.Native.Nat.{suc};
+ghost use Rattle.predictive.specs.Grammar.{Choice, opt, opens};
+ghost use Rattle.predictive.specs.Reader.{ones};
+ghost use Rattle.aadl.specs.Kinds as K;
+ghost use Rattle.aadl.specs.Section as G;
+ghost use Rattle.parser.specs.declared.Lhs.the-variants.{Node};
+ghost use Rattle.parser.specs.Input.{input};
+ghost use Rattle.parser.specs.State.{with-left};
+ghost use Rattle.parser.specs.Reads.{stands, Read, ReadNode, ReadOperand};
+ghost use Rattle.expressions.specs.Openers.{signed-value, opener-value};
+
+// OPERANDS
+
+// The node of an operand.
+fn operand(c: Completed) -> Operand
+    ensures { λ r. ⌜ r ≡ record { p = c .p; lhs = Node (c .m) } ⌝ }
+{
+    let p = c.p;
+    let m = c.m;
+    Operand {
+        p,
+        lhs: Lhs::Node(m),
+    }
+}
+
+// The same where an opener ends, before which so many were left.
+fn closed(c: Completed, left: usize) -> Operand
+    ensures { λ r. ⌜ r ≡ record { p = with-left left (c .p); lhs = Node (c .m) } ⌝ }
+{
+    let p = with_left(c.p, left);
+    let m = c.m;
+    Operand {
+        p,
+        lhs: Lhs::Node(m),
+    }
+}
+
+// An opener stands: `not`, `(`, `[` or a sign.
+fn at_opener(text: &[u8], toks: &[u32], p: Parser) -> bool
+    ensures { λ r. ⌜ r ≡ stands (input (now (text .entry)) (now (toks .entry))) (ones (G.numbers (K.NOT-KW ∷ K.L-PAREN ∷ K.L-BRACKET ∷ K.PLUS ∷ K.MINUS ∷ []))) p ⌝ }
+{
+    let kind = current(text, toks, p);
+    (kind == NOT_KW) | (kind == L_PAREN) | (kind == L_BRACKET) | (kind == PLUS) | (kind == MINUS)
+}
+
+// An operand, or message 5 where none stands.
+fn property_expression_primary(text: &[u8], toks: &[u32], events: &mut [u32], p: Parser) -> Operand
+    ensures { λ r. ⌜ ReadOperand (input (now (text .entry)) (now (toks .entry))) (p .left) G.operand p (now (events .entry)) r (now (events .exit)) ⌝ }
+{
+    if at_opener(text, toks, p) {
+        return opener_value(text, toks, events, p);
+    }
+    let kind = current(text, toks, p);
+    match kind {
+        INTEGER_LIT => operand(integer_value(text, toks, events, p)),
+        REAL_LIT => operand(real_value(text, toks, events, p)),
+        STRING_LIT => operand(string_value(text, toks, events, p)),
+        TRUE_KW => operand(boolean_value(text, toks, events, p)),
+        FALSE_KW => operand(boolean_value(text, toks, events, p)),
+        CLASSIFIER_KW => operand(classifier_value(text, toks, events, p)),
+        REFERENCE_KW => operand(reference_value(text, toks, events, p)),
+        COMPUTE_KW => operand(computed_value(text, toks, events, p)),
+        IDENT => operand(named_value(text, toks, events, p)),
+        C_STYLE => operand(c_style_value(text, toks, events, p)),
+        _ => {
+            let p = error(events, p, 5);
+            Operand {
+                p,
+                lhs: Lhs::Nothing,
+            }
+        }
+    }
+}
+
+// What begins with an opener: refused where none is left.
+fn opener_value(text: &[u8], toks: &[u32], events: &mut [u32], p: Parser) -> Operand
+    ensures { λ r. ⌜ ReadOperand (input (now (text .entry)) (now (toks .entry))) (p .left) (opens opener-value) p (now (events .entry)) r (now (events .exit)) ⌝ }
+{
+    let left = p.left;
+    if left == 0 {
+        let p = too_deep(p);
+        return Operand {
+            p,
+            lhs: Lhs::Nothing,
+        };
+    }
+    let q = with_left(p, left - 1);
+    let kind = current(text, toks, q);
+    match kind {
+        NOT_KW => closed(not_value(text, toks, events, q), left),
+        L_PAREN => closed(list_value(text, toks, events, q), left),
+        L_BRACKET => closed(record_value(text, toks, events, q), left),
+        _ => closed(signed_value(text, toks, events, q), left),
+    }
+}
+
+fn not_value(text: &[u8], toks: &[u32], events: &mut [u32], p: Parser) -> Completed
+    ensures { λ r. ⌜ ReadNode (input (now (text .entry)) (now (toks .entry))) (suc (p .left)) G.not-value p (now (events .entry)) r (now (events .exit)) ⌝ }
+{
+    let s = start(events, p);
+    let p = bump(text, toks, events, s.p, NOT_KW);
+    let p = property_expression(text, toks, events, p);
+    complete(events, p, s.m, BOOLEAN_VALUE)
+}
+
+fn list_value(text: &[u8], toks: &[u32], events: &mut [u32], p: Parser) -> Completed
+    ensures { λ r. ⌜ ReadNode (input (now (text .entry)) (now (toks .entry))) (suc (p .left)) G.list-value p (now (events .entry)) r (now (events .exit)) ⌝ }
+{
+    let s = start(events, p);
+    let p = bump(text, toks, events, s.p, L_PAREN);
+    if at(text, toks, p, R_PAREN) {
+        let p = bump(text, toks, events, p, R_PAREN);
+        return complete(events, p, s.m, LIST_VALUE);
+    }
+    let mut q = property_expression(text, toks, events, p);
+    while at(text, toks, q, COMMA) {
+        q = bump(text, toks, events, q, COMMA);
+        q = property_expression(text, toks, events, q);
+    }
+    let p = expect(text, toks, events, q, R_PAREN);
+    complete(events, p, s.m, LIST_VALUE)
+}
+
+fn record_value(text: &[u8], toks: &[u32], events: &mut [u32], p: Parser) -> Completed
+    ensures { λ r. ⌜ ReadNode (input (now (text .entry)) (now (toks .entry))) (suc (p .left)) G.record-value p (now (events .entry)) r (now (events .exit)) ⌝ }
+{
+    let s = start(events, p);
+    let mut q = bump(text, toks, events, s.p, L_BRACKET);
+    while at(text, toks, q, IDENT) {
+        let f = start(events, q);
+        q = bump(text, toks, events, f.p, IDENT);
+        q = expect(text, toks, events, q, FAT_ARROW);
+        q = property_expression(text, toks, events, q);
+        q = expect(text, toks, events, q, SEMICOLON);
+        let c = complete(events, q, f.m, RECORD_FIELD);
+        q = c.p;
+    }
+    let p = expect(text, toks, events, q, R_BRACKET);
+    complete(events, p, s.m, RECORD_VALUE)
+}
+
+// A sign and the operand that it is for, not the sum around them: `-1 + 2` is a sum.
+fn signed_value(text: &[u8], toks: &[u32], events: &mut [u32], p: Parser) -> Completed
+    ensures { λ r. ⌜ ReadNode (input (now (text .entry)) (now (toks .entry))) (suc (p .left)) signed-value p (now (events .entry)) r (now (events .exit)) ⌝ }
+{
+    let s = start(events, p);
+    let p = bump_any(text, toks, events, s.p);
+    let o = property_expression_primary(text, toks, events, p);
+    complete(events, o.p, s.m, PROPERTY_EXPRESSION)
+}
+
+// EXPRESSIONS
+
+// `*` or `/` stands.
+fn at_factor(text: &[u8], toks: &[u32], p: Parser) -> bool
+    ensures { λ r. ⌜ r ≡ stands (input (now (text .entry)) (now (toks .entry))) (ones (G.numbers (K.STAR ∷ K.SLASH ∷ []))) p ⌝ }
+{
+    let kind = current(text, toks, p);
+    (kind == STAR) | (kind == SLASH)
+}
+
+// `+` or `-` stands.
+fn at_sign(text: &[u8], toks: &[u32], p: Parser) -> bool
+    ensures { λ r. ⌜ r ≡ stands (input (now (text .entry)) (now (toks .entry))) (ones (G.numbers (K.PLUS ∷ K.MINUS ∷ []))) p ⌝ }
+{
+    let kind = current(text, toks, p);
+    (kind == PLUS) | (kind == MINUS)
+}
+
+fn multiplicative_expression(text: &[u8], toks: &[u32], events: &mut [u32], p: Parser) -> Operand
+    ensures { λ r. ⌜ ReadOperand (input (now (text .entry)) (now (toks .entry))) (p .left) G.product p (now (events .entry)) r (now (events .exit)) ⌝ }
+{
+    let o = property_expression_primary(text, toks, events, p);
+    let lhs = o.lhs;
+    let Lhs::Node(m) = lhs else {
+        return o;
+    };
+    let mut q = o.p;
+    let mut lhs = m;
+    while at_factor(text, toks, q) {
+        let s = precede(events, q, lhs);
+        q = bump_any(text, toks, events, s.p);
+        let o = property_expression_primary(text, toks, events, q);
+        let c = complete(events, o.p, s.m, BINARY_EXPR);
+        q = c.p;
+        lhs = c.m;
+    }
+    Operand {
+        p: q,
+        lhs: Lhs::Node(lhs),
+    }
+}
+
+fn additive_expression(text: &[u8], toks: &[u32], events: &mut [u32], p: Parser) -> Operand
+    ensures { λ r. ⌜ ReadOperand (input (now (text .entry)) (now (toks .entry))) (p .left) G.sum p (now (events .entry)) r (now (events .exit)) ⌝ }
+{
+    let o = multiplicative_expression(text, toks, events, p);
+    let lhs = o.lhs;
+    let Lhs::Node(m) = lhs else {
+        return o;
+    };
+    let mut q = o.p;
+    let mut lhs = m;
+    while at_sign(text, toks, q) {
+        let s = precede(events, q, lhs);
+        q = bump_any(text, toks, events, s.p);
+        let o = multiplicative_expression(text, toks, events, q);
+        let c = complete(events, o.p, s.m, BINARY_EXPR);
+        q = c.p;
+        lhs = c.m;
+    }
+    Operand {
+        p: q,
+        lhs: Lhs::Node(lhs),
+    }
+}
+
+// `delta` and a sum, if `delta` stands.
+fn delta_value(text: &[u8], toks: &[u32], events: &mut [u32], p: Parser) -> Parser
+    ensures { λ r. ⌜ ((c : Choice) → Read (input (now (text .entry)) (now (toks .entry))) (p .left) (opt c G.delta-value) p (now (events .entry)) r (now (events .exit))) ⌝ }
+{
+    if at(text, toks, p, DELTA_KW) {
+        let s = start(events, p);
+        let p = bump(text, toks, events, s.p, DELTA_KW);
+        let o = additive_expression(text, toks, events, p);
+        let c = complete(events, o.p, s.m, DELTA_VALUE);
+        return c.p;
+    }
+    p
+}
+
+// A sum, or a range of two sums.
+pub fn property_expression(text: &[u8], toks: &[u32], events: &mut [u32], p: Parser) -> Parser
+    ensures { λ r. ⌜ Read (input (now (text .entry)) (now (toks .entry))) (p .left) G.expression p (now (events .entry)) r (now (events .exit)) ⌝ }
+{
+    let o = additive_expression(text, toks, events, p);
+    let p = o.p;
+    let lhs = o.lhs;
+    let Lhs::Node(m) = lhs else {
+        return p;
+    };
+    if at(text, toks, p, DOT_DOT) {
+        let s = precede(events, p, m);
+        let p = bump(text, toks, events, s.p, DOT_DOT);
+        let o = additive_expression(text, toks, events, p);
+        let p = delta_value(text, toks, events, o.p);
+        let c = complete(events, p, s.m, RANGE_VALUE);
+        return c.p;
+    }
+    p
+}

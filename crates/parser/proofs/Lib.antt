@@ -1,0 +1,11 @@
+pub mod Pushing
+pub mod Trivia
+pub mod Tests
+pub mod Marks
+pub mod Emit
+pub mod Emitted
+pub mod Join
+pub mod Taking
+pub mod Loops
+pub mod Chains
+pub mod Levels
