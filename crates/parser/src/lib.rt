@@ -8,7 +8,7 @@ use syntax_kind::IDENT;
 use syntax_kind::is_keyword;
 use syntax_kind::is_trivia;
 ghost use mathlib.Core.Path.{_≡_};
-ghost use Prim.Native.Nat.{ℕ, _<_};
+ghost use Prim.Native.Nat.{ℕ, _<_, _+_, _*_, _/_};
 ghost use mathlib.Core.List.{List, [], _∷_};
 ghost use lib.ListN.{drop};
 ghost use Rattle.predictive.specs.Forest.{message};
@@ -288,6 +288,14 @@ pub fn complete(events: &mut [u32], p: Parser, m: Marker, kind: u32) -> Complete
     }
 }
 
+// The word of a Start with a forward parent so far on.
+fn with_parent(w: u32, distance: usize) -> u32
+    requires { ⌜ distance < 65535 ⌝ }
+    ensures { λ r. ⌜ r ≡ w / 65536 * 65536 + distance ⌝ }
+{
+    w / 65536 * 65536 + distance as u32
+}
+
 pub fn precede(events: &mut [u32], p: Parser, m: CompletedMarker) -> Started
     ensures { λ r. ⌜ Starts p (now (events .entry)) r (now (events .exit)) (S.precede (m .0)) ⌝ }
 {
@@ -300,7 +308,7 @@ pub fn precede(events: &mut [u32], p: Parser, m: CompletedMarker) -> Started
     }
     if i < place {
         let w = events[i];
-        events[i] = w / 65536 * 65536 + (place - i) as u32;
+        events[i] = with_parent(w, place - i);
     }
     s
 }

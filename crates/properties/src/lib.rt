@@ -145,12 +145,12 @@ fn property_association(text: &[u8], toks: &[u32], events: &mut [u32], p: Parser
     let p = property_ref(text, toks, events, s.p);
     let p = arrow(text, toks, events, p);
     let p = eat(text, toks, events, p, CONSTANT_KW);
-    let mut q = property_value(text, toks, events, p);
-    while at(text, toks, q, COMMA) {
-        q = bump(text, toks, events, q, COMMA);
-        q = property_value(text, toks, events, q);
+    let mut v = property_value(text, toks, events, p);
+    while at(text, toks, v, COMMA) {
+        v = bump(text, toks, events, v, COMMA);
+        v = property_value(text, toks, events, v);
     }
-    let p = applies_to(text, toks, events, q);
+    let p = applies_to(text, toks, events, v);
     let p = in_binding(text, toks, events, p);
     let p = expect(text, toks, events, p, SEMICOLON);
     let c = complete(events, p, s.m, PROPERTY_ASSOCIATION);
