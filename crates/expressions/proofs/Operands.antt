@@ -27,12 +27,14 @@ use Rattle.parser.specs.Input.{Input, rest, END, nth}
 use Rattle.parser.specs.State.{with-left}
 use Rattle.parser.specs.Reads.{stands, reading-at, Read, ReadNode, ReadOperand}
 use Rattle.parser.proofs.Join.{r-same, r-opens, within-left, stands-at}
-use Rattle.parser.proofs.Chains.{o-node, o-none, o-same, Chaining}
+use Rattle.parser.proofs.Nodes.{o-node, o-none, o-same}
+use Rattle.parser.proofs.Chains.{Chaining}
 use Rattle.categories.proofs.Words.{begins-one, begins-any, _also_, no-more, kinds-are}
 use Rattle.expressions.specs.Openers.{signed-value, opener-value}
 
 -- The Expression after `not` is read as any other.
-pub r-negated : {inp : Input} {d : ℕ} {hs : List Head} {p : Parser} {b : List ℕ} {r : Parser} {c : List ℕ} → Read inp d expression p b r c → Read inp (suc d) (before hs (rule Negated)) p b r c
+pub r-negated : {inp : Input} {d : ℕ} {hs : List Head} {p : Parser} {b : List ℕ} {r : Parser} {c : List ℕ} → Read inp d expression p b r c →
+    Read inp (suc d) (before hs (rule Negated)) p b r c
 unfolding read step below
 r-negated x = r-same (λ n h. refl) x
 
@@ -40,7 +42,8 @@ r-negated x = r-same (λ n h. refl) x
 abbrev pub Alike : (d k : ℕ) → Part Rule → Part Rule → Type 0
 Alike d k P Q = (n : ℕ) (ys : List ℕ) → read grammar n d P (k ∷ ys) ≡ read grammar n d Q (k ∷ ys)
 
-alike-at : (inp : Input) (d k : ℕ) (P Q : Part Rule) (p : Parser) → Alike d k P Q → stands inp (ones (k ∷ [])) p ≡ true → (n : ℕ) → p .stop ≡ 0 → reading-at inp n d P p ≡ reading-at inp n d Q p
+alike-at : (inp : Input) (d k : ℕ) (P Q : Part Rule) (p : Parser) → Alike d k P Q → stands inp (ones (k ∷ [])) p ≡ true → (n : ℕ) → p .stop ≡ 0 →
+    reading-at inp n d P p ≡ reading-at inp n d Q p
 unfolding ones
 alike-at inp d k P Q p f s n h = begins-one k (λ (xs : List ℕ). read grammar n d P xs ≡ read grammar n d Q xs) (f n) (rest inp p) (stands-at inp (ones (k ∷ [])) p s h)
 
@@ -49,7 +52,8 @@ stood : (inp : Input) (p : Parser) (k : ℕ) {x : ℕ} → has (k ∷ []) END �
 stood inp p k e g h = sym (kinds-are inp p (k ∷ []) e (sym h ∙ g)) ∙ rw (eq-eqb k k refl) refl
 
 -- An operand of one kind of node, told by its first token k.
-pub arm : {inp : Input} {d j x : ℕ} {P : Part Rule} {p : Parser} {b : List ℕ} {r : Completed} {o : Operand} {c : List ℕ} (k : ℕ) → has (k ∷ []) END ≡ false → Alike d k (inside j P) operand →
+pub arm : {inp : Input} {d j x : ℕ} {P : Part Rule} {p : Parser} {b : List ℕ} {r : Completed} {o : Operand} {c : List ℕ} (k : ℕ) → has (k ∷ []) END ≡ false →
+    Alike d k (inside j P) operand →
     x ≡ nth inp p 0 → x ≡ k → ReadNode inp d (inside j P) p b r c → o ≡ record { p = r .p; lhs = Node (r .m) } → ReadOperand inp d operand p b o c
 unfolding read step
 arm {inp} {d} {j} {x} {P} {p} {b} {r} {o} {c} k e f g h y q =
@@ -68,7 +72,8 @@ abbrev operand-kinds : List ℕ
 operand-kinds = openers ++ others
 
 -- a side of a choice whose heads are among some of which none stands
-passed : (n d : ℕ) (P Q : Part Rule) (hs : List Head) (xs : List ℕ) → within-heads (first grammar P) hs ≡ true → at hs xs ≡ false → read grammar n d (either free P Q) xs ≡ read grammar n d Q xs
+passed : (n d : ℕ) (P Q : Part Rule) (hs : List Head) (xs : List ℕ) → within-heads (first grammar P) hs ≡ true → at hs xs ≡ false →
+    read grammar n d (either free P Q) xs ≡ read grammar n d Q xs
 unfolding read step
 passed n d P Q hs xs w e = rw (within-absent (first grammar P) hs xs w e) refl
 
@@ -79,7 +84,8 @@ failed n d m xs = refl
 operand-none : (n d : ℕ) (xs : List ℕ) → at (ones operand-kinds) xs ≡ false → read grammar n d operand xs ≡ miss (message 5) xs
 unfolding first null ones names keywords within-heads among same
 operand-none n d xs e =
-    let by : (P Q : Part Rule) → within-heads (first grammar P) (ones operand-kinds) ≡ true → read grammar n d (either free P Q) xs ≡ read grammar n d Q xs = λ P Q w. passed n d P Q (ones operand-kinds) xs w e in
+    let by : (P Q : Part Rule) → within-heads (first grammar P) (ones operand-kinds) ≡ true →
+    read grammar n d (either free P Q) xs ≡ read grammar n d Q xs = λ P Q w. passed n d P Q (ones operand-kinds) xs w e in
     by integer-value _ refl
     ∙ by real-value _ refl
     ∙ by string-value _ refl
@@ -95,7 +101,8 @@ operand-none n d xs e =
     ∙ by (wrong C-STYLE (# ERROR) 4) (fail 5) refl
     ∙ failed n d 5 xs
 
-pub no-operand : {inp : Input} {d : ℕ} {p : Parser} {b : List ℕ} {q : Parser} {c : List ℕ} → stands inp (ones (openers ++ others)) p ≡ false → Read inp d (fail 5) p b q c →
+pub no-operand : {inp : Input} {d : ℕ} {p : Parser} {b : List ℕ} {q : Parser} {c : List ℕ} → stands inp (ones (openers ++ others)) p ≡ false →
+    Read inp d (fail 5) p b q c →
     ReadOperand inp d operand p b (record { p = q; lhs = Nothing }) c
 unfolding read step
 no-operand {inp} {d} {p} s x =
@@ -108,9 +115,11 @@ no-operand {inp} {d} {p} s x =
 abbrev Behind : Input → (j : ℕ) → Part Rule → Parser → List ℕ → Completed → List ℕ → Parser → Type 0
 Behind inp j P p b r c q =
     ((n : ℕ) → q .stop ≡ 0 → reading-at inp n (suc (q .left)) (inside j P) q ≡ reading-at inp n (suc (q .left)) opener-value q) →
-    ReadNode inp (suc (q .left)) (inside j P) q b r c → ReadOperand inp (p .left) (opens opener-value) p b (record { p = with-left (p .left) (r .p); lhs = Node (r .m) }) c
+    ReadNode inp (suc (q .left)) (inside j P) q b r c →
+    ReadOperand inp (p .left) (opens opener-value) p b (record { p = with-left (p .left) (r .p); lhs = Node (r .m) }) c
 
-behind : (inp : Input) (j : ℕ) (P : Part Rule) (p : Parser) (b : List ℕ) (r : Completed) (c : List ℕ) → (p .left ≡ 0 → ⊥) → Behind inp j P p b r c (with-left (p .left - 1) p)
+behind : (inp : Input) (j : ℕ) (P : Part Rule) (p : Parser) (b : List ℕ) (r : Completed) (c : List ℕ) → (p .left ≡ 0 → ⊥) →
+    Behind inp j P p b r c (with-left (p .left - 1) p)
 unfolding read step rest
 behind inp j P p b r c h f y =
     let level : suc (p .left - 1) ≡ p .left = omega (arith, h) in
@@ -119,8 +128,10 @@ behind inp j P p b r c h f y =
     (r-opens h (r-same f (y .reads))) (y .mark)
 
 -- A node behind an opener, told by its first token k, read with one opener fewer left.
-pub opened : {inp : Input} {j : ℕ} {P : Part Rule} {p q : Parser} {b : List ℕ} {r : Completed} {o : Operand} {c : List ℕ} → (p .left ≡ 0 → ⊥) → q ≡ with-left (p .left - 1) p →
-    ((n : ℕ) → q .stop ≡ 0 → reading-at inp n (suc (q .left)) (inside j P) q ≡ reading-at inp n (suc (q .left)) opener-value q) → ReadNode inp (suc (q .left)) (inside j P) q b r c →
+pub opened : {inp : Input} {j : ℕ} {P : Part Rule} {p q : Parser} {b : List ℕ} {r : Completed} {o : Operand} {c : List ℕ} → (p .left ≡ 0 → ⊥) →
+    q ≡ with-left (p .left - 1) p →
+    ((n : ℕ) → q .stop ≡ 0 → reading-at inp n (suc (q .left)) (inside j P) q ≡ reading-at inp n (suc (q .left)) opener-value q) →
+    ReadNode inp (suc (q .left)) (inside j P) q b r c →
     o ≡ record { p = with-left (p .left) (r .p); lhs = Node (r .m) } → ReadOperand inp (p .left) (opens opener-value) p b o c
 opened {inp} {j} {P} {p} {q} {b} {r} {o} {c} h e f y g =
     subst (λ (t : Operand). ReadOperand inp (p .left) (opens opener-value) p b t c) (sym g)
@@ -128,7 +139,8 @@ opened {inp} {j} {P} {p} {q} {b} {r} {o} {c} h e f y g =
 
 -- .. by the token k ..
 pub opened-by : {inp : Input} {j x : ℕ} {P : Part Rule} {p q : Parser} {b : List ℕ} {r : Completed} {o : Operand} {c : List ℕ} (k : ℕ) → has (k ∷ []) END ≡ false →
-    Alike (suc (q .left)) k (inside j P) opener-value → (p .left ≡ 0 → ⊥) → q ≡ with-left (p .left - 1) p → x ≡ nth inp q 0 → x ≡ k → ReadNode inp (suc (q .left)) (inside j P) q b r c →
+    Alike (suc (q .left)) k (inside j P) opener-value → (p .left ≡ 0 → ⊥) → q ≡ with-left (p .left - 1) p → x ≡ nth inp q 0 → x ≡ k →
+    ReadNode inp (suc (q .left)) (inside j P) q b r c →
     o ≡ record { p = with-left (p .left) (r .p); lhs = Node (r .m) } → ReadOperand inp (p .left) (opens opener-value) p b o c
 opened-by {inp} {j} {x} {P} {p} {q} k e f h i g m y n = opened h i (alike-at inp (suc (q .left)) k (inside j P) opener-value q f (stood inp q k e g m)) y n
 
@@ -145,7 +157,8 @@ pub none-stands : (inp : Input) (p : Parser) (ks : List ℕ) {x : ℕ} → has k
 none-stands inp p ks {x} e g r = sym (kinds-are inp p ks e g) ∙ failed-all (Unit {0}) ks x r .0
 
 -- .. or by none of those that begin the others: then a sign is taken
-pub opened-else : {inp : Input} {x : ℕ} {p q : Parser} {b : List ℕ} {r : Completed} {o : Operand} {c : List ℕ} → (p .left ≡ 0 → ⊥) → q ≡ with-left (p .left - 1) p → x ≡ nth inp q 0 →
+pub opened-else : {inp : Input} {x : ℕ} {p q : Parser} {b : List ℕ} {r : Completed} {o : Operand} {c : List ℕ} → (p .left ≡ 0 → ⊥) → q ≡ with-left (p .left - 1) p →
+    x ≡ nth inp q 0 →
     Failed (Unit {0}) (numbers (NOT-KW ∷ L-PAREN ∷ L-BRACKET ∷ [])) x → ReadNode inp (suc (q .left)) signed-value q b r c →
     o ≡ record { p = with-left (p .left) (r .p); lhs = Node (r .m) } → ReadOperand inp (p .left) (opens opener-value) p b o c
 unfolding first null ones within-heads among same
@@ -160,7 +173,8 @@ opened-else {inp} {x} {p} {q} h i g m y n = opened h i alike y n
 
 -- An operand that begins with an opener.
 pub opener-operand : {inp : Input} {d : ℕ} {p : Parser} {b : List ℕ} {o : Operand} {c : List ℕ} →
-    stands inp (ones (numbers (NOT-KW ∷ L-PAREN ∷ L-BRACKET ∷ PLUS ∷ MINUS ∷ []))) p ≡ true → ReadOperand inp d (opens opener-value) p b o c → ReadOperand inp d operand p b o c
+    stands inp (ones (numbers (NOT-KW ∷ L-PAREN ∷ L-BRACKET ∷ PLUS ∷ MINUS ∷ []))) p ≡ true → ReadOperand inp d (opens opener-value) p b o c →
+    ReadOperand inp d operand p b o c
 unfolding read step first null ones names keywords take-one take-any
 opener-operand {inp} {d} {p} s x = o-same alike x
   where

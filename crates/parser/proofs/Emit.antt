@@ -1,28 +1,23 @@
 -- Events pushed one after another. How the counters go depends on the number of words alone and not on what is in them (`advance`);
 -- and while the parser goes on, the words are those of the events, in a row (`emit-words`). So a law about a reading has two short
 -- halves, one on counters and one on lists. Assumes nothing.
-use Prim.Native.Nat.{ℕ, zero, suc, _+_, _-_, _≤_, _<_, min}
+use Prim.Native.Nat.{ℕ, zero, suc, _+_, _<_, min}
 use native.Mathlib.Omega.{arith}
 use native.Mathlib.Numerals.{add-one}
-use mathlib.Core.Path.{_≡_, refl, sym, ap, subst, _∙_}
+use mathlib.Core.Path.{_≡_, refl, ap, _∙_}
 use mathlib.Core.Bool.{Bool, true, false, cond}
-use mathlib.Core.Logic.{_⊎_, inl, inr}
 use mathlib.Core.List.{List, [], _∷_, _++_, map}
 use lib.ListN.{length, length-set}
 use lib.Seq.{sets}
 use lib.Dec.{eqb, ltb}
-use borrow.Author.Tests.{eq-eqb, ne-eqb, eqb-false}
 use Rattle.predictive.specs.Forest.{message, nested}
-use Rattle.predictive.specs.Events.{Event, start, token, finish, error, taken}
+use Rattle.predictive.specs.Events.{Event, start, token, finish, error}
 use Rattle.aadl.specs.Limits.{most-events}
 use Rattle.aadl.specs.Reading.{event-word}
 use Rattle.parser.specs.declared.Parser.{Parser}
-use Rattle.parser.specs.Input.{Input, rest}
-use Rattle.parser.specs.State.{State, state, room, with-left, going, stopped, pushed, push, halt, pass, passed, enter, emit}
-use Rattle.predictive.proofs.Tests.{never}
-use Rattle.predictive.proofs.EventLaws.{taken-append}
-use Rattle.parser.proofs.Trivia.{tail, rest-after-one}
-use Rattle.parser.proofs.Pushing.{Goes, Stopped, goes-or-stopped, push-elim, push-stopped, push-went, halt-stopped, halt-stops, pass-stopped}
+use Rattle.parser.specs.Input.{Input}
+use Rattle.parser.specs.State.{State, state, room, going, stopped, pushed, push, halt, pass, passed, enter, emit}
+use Rattle.parser.proofs.Pushing.{Goes, Stopped, push-elim, push-stopped, push-went, halt-stopped, halt-stops, pass-stopped}
 
 push-long : (w : ℕ) (s : State) → length (push w s .words) ≡ length (s .words)
 push-long w s = push-elim w s (λ r. length (r .words) ≡ length (s .words)) (λ h. refl) (λ h l. length-set (s .words) (s .parser .used) w) (λ h l. refl)
@@ -67,20 +62,20 @@ module _ (inp : Input) where
   -- COUNTERS -----------------------------------------------------------------------------------------------------------
 
   -- the counters after an event, where n words can be used
-  abbrev counted : ℕ → Parser → Parser
+  abbrev pub counted : ℕ → Parser → Parser
   counted n p = cond (ltb (p .used) n) (pushed 0 (state p []) .parser) (stopped 5 (state p []) .parser)
 
-  abbrev moved : Parser → Parser
+  abbrev pub moved : Parser → Parser
   moved p = cond (eqb (p .stop) 0) (passed inp (state p []) .parser) p
 
-  abbrev one-on : ℕ → Event → Parser → Parser
+  abbrev pub one-on : ℕ → Event → Parser → Parser
   one-on n (start k up) p = counted n p
   one-on n (token k) p = moved (counted n p)
   one-on n finish p = counted n p
   one-on n (error (message m)) p = counted n p
   one-on n (error nested) p = stopped 6 (state p []) .parser
 
-  abbrev step-on : ℕ → Event → Parser → Parser
+  abbrev pub step-on : ℕ → Event → Parser → Parser
   step-on n e p = cond (eqb (p .stop) 0) (one-on n e p) p
 
   unfoldable pub advance : ℕ → List Event → Parser → Parser
@@ -204,189 +199,3 @@ module _ (inp : Input) where
           room (enter inp e s .words) ≡ room (s .words) → (k : ℕ) → k < suc (length es) → s .parser .used + k < room (s .words)
       each f g u m zero l = g 0 (omega arith)
       each f g u m (suc k) l = omega (arith, f k (omega (arith, l)), u, m)
-
-  -- LEVEL AND REST -----------------------------------------------------------------------------------------------------
-
-  counted-left : (n : ℕ) (p : Parser) → counted n p .left ≡ p .left
-  counted-left n p = go (ltb (p .used) n)
-    where
-      go : (t : Bool) → cond t (pushed 0 (state p []) .parser) (stopped 5 (state p []) .parser) .left ≡ p .left
-      go true = refl
-      go false = refl
-
-  counted-rest : (n : ℕ) (p : Parser) → rest inp (counted n p) ≡ rest inp p
-  unfolding rest
-  counted-rest n p = go (ltb (p .used) n)
-    where
-      go : (t : Bool) → rest inp (cond t (pushed 0 (state p []) .parser) (stopped 5 (state p []) .parser)) ≡ rest inp p
-      go true = refl
-      go false = refl
-
-  moved-left : (p : Parser) → moved p .left ≡ p .left
-  moved-left p = go (eqb (p .stop) 0)
-    where
-      go : (t : Bool) → cond t (passed inp (state p []) .parser) p .left ≡ p .left
-      go true = refl
-      go false = refl
-
-  one-left : (n : ℕ) (e : Event) (p : Parser) → one-on n e p .left ≡ p .left
-  one-left n (start k up) p = counted-left n p
-  one-left n (token k) p = moved-left (counted n p) ∙ counted-left n p
-  one-left n finish p = counted-left n p
-  one-left n (error (message m)) p = counted-left n p
-  one-left n (error nested) p = refl
-
-  step-left : (n : ℕ) (e : Event) (p : Parser) → step-on n e p .left ≡ p .left
-  step-left n e p = go (eqb (p .stop) 0)
-    where
-      go : (t : Bool) → cond t (one-on n e p) p .left ≡ p .left
-      go true = one-left n e p
-      go false = refl
-
-  -- The openers left stay.
-  pub advance-left : (n : ℕ) (es : List Event) (p : Parser) → advance n es p .left ≡ p .left
-  unfolding advance
-  advance-left n [] p = refl
-  advance-left n (e ∷ es) p = advance-left n es (step-on n e p) ∙ step-left n e p
-
-  moved-stopped : (p : Parser) → (p .stop ≡ 0 → ⊥) → moved p ≡ p
-  moved-stopped p f = rw (ne-eqb (p .stop) 0 f) refl
-
-  -- What remains after some events is at most what remained less the tokens taken.
-  abbrev Fewer : ℕ → Parser → Parser → Type 0
-  Fewer k p r = length (rest inp r) ≤ length (rest inp p) - k
-
-  tail-length : (xs : List ℕ) → length (tail xs) ≤ length xs - 1
-  tail-length [] = omega arith
-  tail-length (x ∷ xs) = omega arith
-
-  moved-rest : (p : Parser) → p .stop ≡ 0 → rest inp (moved p) ≡ tail (rest inp p)
-  moved-rest p h = rw (eq-eqb (p .stop) 0 h) (rest-after-one inp p (passed inp (state p []) .parser) refl refl)
-
-  moved-fewer : (p : Parser) → moved p .stop ≡ 0 → Fewer 1 p (moved p)
-  moved-fewer p h =
-      let g : p .stop ≡ 0 = go (goes-or-stopped (p .stop)) in
-      subst (λ (xs : List ℕ). length xs ≤ length (rest inp p) - 1) (sym (moved-rest p g)) (tail-length (rest inp p))
-    where
-      go : (p .stop ≡ 0) ⊎ (p .stop ≡ 0 → ⊥) → p .stop ≡ 0
-      go (inl g) = g
-      go (inr f) = absurd (f (ap (λ (q : Parser). q .stop) (sym (moved-stopped p f)) ∙ h))
-
-  one-fewer : (n : ℕ) (e : Event) (p : Parser) → one-on n e p .stop ≡ 0 → Fewer (taken (e ∷ [])) p (one-on n e p)
-  unfolding taken rest
-  one-fewer n (start k up) p h = omega (arith, ap length (counted-rest n p))
-  one-fewer n (token k) p h = omega (arith, moved-fewer (counted n p) h, ap length (counted-rest n p))
-  one-fewer n finish p h = omega (arith, ap length (counted-rest n p))
-  one-fewer n (error (message m)) p h = omega (arith, ap length (counted-rest n p))
-  one-fewer n (error nested) p h = omega arith
-
-  step-fewer : (n : ℕ) (e : Event) (p : Parser) → step-on n e p .stop ≡ 0 → Fewer (taken (e ∷ [])) p (step-on n e p)
-  step-fewer n e p = go (eqb (p .stop) 0) refl
-    where
-      go : (t : Bool) → eqb (p .stop) 0 ≡ t → cond t (one-on n e p) p .stop ≡ 0 → Fewer (taken (e ∷ [])) p (cond t (one-on n e p) p)
-      go true i h = one-fewer n e p h
-      go false i h = absurd (eqb-false _ _ i h)
-
-  pub advance-stopped : (n : ℕ) (es : List Event) (p : Parser) → (p .stop ≡ 0 → ⊥) → advance n es p ≡ p
-  unfolding advance
-  advance-stopped n [] p h = refl
-  advance-stopped n (e ∷ es) p h = rw (ne-eqb (p .stop) 0 h) (advance-stopped n es p h)
-
-  pub advance-goes : (n : ℕ) (es : List Event) (p : Parser) → advance n es p .stop ≡ 0 → p .stop ≡ 0
-  advance-goes n es p h = go (goes-or-stopped (p .stop))
-    where
-      go : (p .stop ≡ 0) ⊎ (p .stop ≡ 0 → ⊥) → p .stop ≡ 0
-      go (inl g) = g
-      go (inr f) = absurd (f (ap (λ (q : Parser). q .stop) (sym (advance-stopped n es p f)) ∙ h))
-
-  pub advance-fewer : (n : ℕ) (es : List Event) (p : Parser) → advance n es p .stop ≡ 0 → Fewer (taken es) p (advance n es p)
-  unfolding advance taken
-  advance-fewer n [] p h = omega arith
-  advance-fewer n (e ∷ es) p h =
-      let i = advance-fewer n es (step-on n e p) h in
-      let j = step-fewer n e p (advance-goes n es (step-on n e p) h) in
-      omega (arith, i, j, taken-append (e ∷ []) es)
-
-  -- .. and it never grows, even where the parser stops on the way.
-  moved-no-more : (p : Parser) → Fewer 0 p (moved p)
-  moved-no-more p = go (goes-or-stopped (p .stop))
-    where
-      go : (p .stop ≡ 0) ⊎ (p .stop ≡ 0 → ⊥) → Fewer 0 p (moved p)
-      go (inl g) = omega (arith, ap length (moved-rest p g), tail-length (rest inp p))
-      go (inr f) = omega (arith, ap (λ (q : Parser). length (rest inp q)) (moved-stopped p f))
-
-  one-no-more : (n : ℕ) (e : Event) (p : Parser) → Fewer 0 p (one-on n e p)
-  unfolding rest
-  one-no-more n (start k up) p = omega (arith, ap length (counted-rest n p))
-  one-no-more n (token k) p = omega (arith, moved-no-more (counted n p), ap length (counted-rest n p))
-  one-no-more n finish p = omega (arith, ap length (counted-rest n p))
-  one-no-more n (error (message m)) p = omega (arith, ap length (counted-rest n p))
-  one-no-more n (error nested) p = omega arith
-
-  step-no-more : (n : ℕ) (e : Event) (p : Parser) → Fewer 0 p (step-on n e p)
-  step-no-more n e p = go (eqb (p .stop) 0)
-    where
-      go : (t : Bool) → Fewer 0 p (cond t (one-on n e p) p)
-      go true = one-no-more n e p
-      go false = omega arith
-
-  pub advance-no-more : (n : ℕ) (es : List Event) (p : Parser) → length (rest inp (advance n es p)) ≤ length (rest inp p)
-  unfolding advance
-  advance-no-more n [] p = omega arith
-  advance-no-more n (e ∷ es) p = omega (arith, advance-no-more n es (step-on n e p), step-no-more n e p)
-
-  -- An event that takes no token moves nothing on.
-  abbrev takes-none : Event → Bool
-  takes-none (start k up) = true
-  takes-none (token k) = false
-  takes-none finish = true
-  takes-none (error m) = true
-
-  one-stays : (n : ℕ) (e : Event) (p : Parser) → takes-none e ≡ true → rest inp (one-on n e p) ≡ rest inp p
-  unfolding rest
-  one-stays n (start k up) p t = counted-rest n p
-  one-stays n (token k) p t = never t
-  one-stays n finish p t = counted-rest n p
-  one-stays n (error (message m)) p t = counted-rest n p
-  one-stays n (error nested) p t = refl
-
-  pub one-rest : (n : ℕ) (e : Event) (p : Parser) → takes-none e ≡ true → rest inp (advance n (e ∷ []) p) ≡ rest inp p
-  unfolding advance
-  one-rest n e p t = go (eqb (p .stop) 0)
-    where
-      go : (u : Bool) → rest inp (cond u (one-on n e p) p) ≡ rest inp p
-      go true = one-stays n e p t
-      go false = refl
-
-  -- THE LEVEL ------------------------------------------------------------------------------------------------------------
-
-  counted-raised : (n l : ℕ) (p : Parser) → counted n (with-left l p) ≡ with-left l (counted n p)
-  counted-raised n l p = go (ltb (p .used) n)
-    where
-      go : (t : Bool) → cond t (pushed 0 (state (with-left l p) []) .parser) (stopped 5 (state (with-left l p) []) .parser) ≡ with-left l (cond t (pushed 0 (state p []) .parser) (stopped 5 (state p []) .parser))
-      go true = refl
-      go false = refl
-
-  moved-raised : (l : ℕ) (p : Parser) → moved (with-left l p) ≡ with-left l (moved p)
-  moved-raised l p = go (eqb (p .stop) 0)
-    where
-      go : (t : Bool) → cond t (passed inp (state (with-left l p) []) .parser) (with-left l p) ≡ with-left l (cond t (passed inp (state p []) .parser) p)
-      go true = refl
-      go false = refl
-
-  one-raised : (n l : ℕ) (e : Event) (p : Parser) → one-on n e (with-left l p) ≡ with-left l (one-on n e p)
-  one-raised n l (start k up) p = counted-raised n l p
-  one-raised n l (token k) p = ap moved (counted-raised n l p) ∙ moved-raised l (counted n p)
-  one-raised n l finish p = counted-raised n l p
-  one-raised n l (error (message m)) p = counted-raised n l p
-  one-raised n l (error nested) p = refl
-
-  -- The openers left do not matter to events.
-  pub advance-raised : (n l : ℕ) (es : List Event) (p : Parser) → advance n es (with-left l p) ≡ with-left l (advance n es p)
-  unfolding advance
-  advance-raised n l [] p = refl
-  advance-raised n l (e ∷ es) p = ap (advance n es) (go (eqb (p .stop) 0)) ∙ advance-raised n l es (step-on n e p)
-    where
-      go : (t : Bool) → cond t (one-on n e (with-left l p)) (with-left l p) ≡ with-left l (cond t (one-on n e p) p)
-      go true = one-raised n l e p
-      go false = refl

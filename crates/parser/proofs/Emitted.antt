@@ -21,7 +21,8 @@ use Rattle.parser.specs.Input.{Input, input, rest}
 use Rattle.parser.specs.State.{State, state, room, going, push, enter, emit, stored, linked, complete, precede}
 use Rattle.parser.specs.Reads.{Starts, Completes}
 use Rattle.parser.proofs.Pushing.{goes-or-stopped, going-stopped, going-goes, push-went}
-use Rattle.parser.proofs.Emit.{emit-long, advance, advance-append, advance-left, one-rest, advance-stopped, advance-goes, emit-advance, emit-went}
+use Rattle.parser.proofs.Emit.{emit-long, advance, advance-append, emit-advance, emit-went}
+use Rattle.parser.proofs.Counters.{advance-left, one-rest, advance-stopped, advance-goes}
 
 -- The words of events, from a place on.
 abbrev pub wrote : List ℕ → ℕ → List Event → List ℕ
@@ -155,7 +156,8 @@ module _ {inp : Input} (ds es : List Event) (j up : ℕ) {p : Parser} {b : List 
       }
 
   -- Its word is there.
-  pub emitted-word : Emitted inp (ds ++ start j up ∷ es) p b q c → q .stop ≡ 0 → (p .used + length ds < length b) × (getD c (p .used + length ds) 0 ≡ event-word (start j up))
+  pub emitted-word : Emitted inp (ds ++ start j up ∷ es) p b q c → q .stop ≡ 0 →
+      (p .used + length ds < length b) × (getD c (p .used + length ds) 0 ≡ event-word (start j up))
   emitted-word x h =
       let l = ds ++ start j up ∷ es in
       let e : q ≡ emit inp l (state p b) .parser = x .parser ∙ sym (emit-advance inp l (state p b)) in
@@ -205,7 +207,8 @@ module _ {inp : Input} {p : Parser} {b : List ℕ} where
       linked-is k = rw (lt-ltb m (p .used) k) refl
 
       counts : t .parser ≡ advance inp (room (set b m (given p b m))) (start 0 0 ∷ []) p
-      counts = emit-advance inp (start 0 0 ∷ []) (state p b) ∙ ap (λ (n : ℕ). advance inp (min n most-events) (start 0 0 ∷ []) p) (sym (length-set b m (given p b m)))
+      counts = emit-advance inp (start 0 0 ∷ []) (state p b)
+          ∙ ap (λ (n : ℕ). advance inp (min n most-events) (start 0 0 ∷ []) p) (sym (length-set b m (given p b m)))
 
       same-long : (u : State) → state (s .p) c ≡ u → length (u .words) ≡ length b → length c ≡ length (set b m (given p b m))
       same-long u e f = ap (λ (v : State). length (v .words)) e ∙ f ∙ sym (length-set b m (given p b m))
@@ -233,7 +236,8 @@ module _ {inp : Input} {p : Parser} {b : List ℕ} where
           }
 
 -- What preceding does to the counters: a Start is pushed.
-precede-counts : (m : ℕ) (s : State) → (precede m s .parser ≡ push (event-word (start 0 0)) s .parser) × (length (precede m s .words) ≡ length (push (event-word (start 0 0)) s .words))
+precede-counts : (m : ℕ) (s : State) →
+    (precede m s .parser ≡ push (event-word (start 0 0)) s .parser) × (length (precede m s .words) ≡ length (push (event-word (start 0 0)) s .words))
 unfolding precede going
 precede-counts m s = go (eqb (t .parser .stop) 0) (ltb m (s .parser .used))
   where
@@ -248,7 +252,8 @@ precede-counts m s = go (eqb (t .parser .stop) 0) (ltb m (s .parser .used))
     go true false = (refl, refl)
     go false v = (refl, refl)
 
-pub preceded-rest : (inp : Input) {p : Parser} {b : List ℕ} {s : Started} {c : List ℕ} (m : ℕ) → Starts p b s c (precede m) → (rest inp (s .p) ≡ rest inp p) × (s .p .left ≡ p .left) × (length c ≡ length b)
+pub preceded-rest : (inp : Input) {p : Parser} {b : List ℕ} {s : Started} {c : List ℕ} (m : ℕ) → Starts p b s c (precede m) →
+    (rest inp (s .p) ≡ rest inp p) × (s .p .left ≡ p .left) × (length c ≡ length b)
 unfolding emit enter
 preceded-rest inp {p} {b} m x =
     let e = ap (λ (t : State). t .parser) (x .ran) ∙ precede-counts m (state p b) .0 ∙ emit-advance inp (start 0 0 ∷ []) (state p b) in (
@@ -271,4 +276,5 @@ preceded-left m x = preceded-rest (input [] []) m x .1
 
 pub completed-left : {m : Marker} {k : ℕ} {p : Parser} {b : List ℕ} {r : Completed} {c : List ℕ} → Completes m k p b r c → r .p .left ≡ p .left
 completed-left {m} {k} {p} {b} x =
-    ap (λ (t : Parser). t .left) (emitted-completed {inp = input [] []} x .parser) ∙ advance-left (input [] []) (room (set b (m .0) (event-word (start k 0)))) (finish ∷ []) p
+    ap (λ (t : Parser). t .left) (emitted-completed {inp = input [] []} x .parser)
+    ∙ advance-left (input [] []) (room (set b (m .0) (event-word (start k 0)))) (finish ∷ []) p

@@ -24,7 +24,8 @@ use Rattle.parser.specs.Input.{Input, rest}
 use Rattle.parser.specs.State.{State, state, room, with-left, push, halt, enter, emit}
 use Rattle.parser.specs.Reads.{stands, heads-of, reading-at, Became, Read, Ran, Starts, Completes, ReadNode}
 use Rattle.parser.proofs.Pushing.{halt-stops}
-use Rattle.parser.proofs.Emit.{advance, advance-left, advance-no-more, advance-raised, emit-advance, emit-went, one-rest}
+use Rattle.parser.proofs.Emit.{advance, emit-advance, emit-went}
+use Rattle.parser.proofs.Counters.{advance-left, advance-no-more, advance-raised, one-rest}
 use Rattle.parser.proofs.Emitted.{Emitted, emitted, emitted-goes, emitted-append, emitted-either, emitted-restart, emitted-started, emitted-completed}
 
 -- WHAT CAME OF A READING -----------------------------------------------------------------------------------------------
@@ -160,11 +161,13 @@ is-at k [] t e = e
 is-at k (x ∷ xs) t e = sym (or-false (eqb x k)) ∙ e
 
 module _ {inp : Input} {d k : ℕ} {P : Part Rule} {p : Parser} {b : List ℕ} where
-  pub r-until-at-once : {r : Parser} {e : List ℕ} → stands inp (one k ∷ []) p ≡ true → Read inp d (tok (expected k) (k ∷ [])) p b r e → Read inp d (until k P) p b r e
+  pub r-until-at-once : {r : Parser} {e : List ℕ} → stands inp (one k ∷ []) p ≡ true → Read inp d (tok (expected k) (k ∷ [])) p b r e →
+      Read inp d (until k P) p b r e
   unfolding read step
   r-until-at-once s x = r-same (λ n h. sym (rw (is-at k (rest inp p) true (stands-at inp (one k ∷ []) p s h)) refl)) x
 
-  pub r-until : {q : Parser} {c : List ℕ} {r : Parser} {e : List ℕ} → stands inp (one k ∷ []) p ≡ false → Read inp d P p b q c → Read inp d (tok (expected k) (k ∷ [])) q c r e →
+  pub r-until : {q : Parser} {c : List ℕ} {r : Parser} {e : List ℕ} → stands inp (one k ∷ []) p ≡ false → Read inp d P p b q c →
+      Read inp d (tok (expected k) (k ∷ [])) q c r e →
       Read inp d (until k P) p b r e
   unfolding read step
   r-until s x y = r-same (λ n h. sym (rw (is-at k (rest inp p) false (stands-at inp (one k ∷ []) p s h)) refl)) (r-seq x y)
@@ -222,7 +225,8 @@ module _ {inp : Input} {P : Part Rule} {p : Parser} {b : List ℕ} where
           let i : Became inp o (with-left (p .left - 1) p) b q c = subst (λ (d : ℕ). Became inp (reading-at inp n d P p) (with-left (p .left - 1) p) b q c) level (x .did n l) in
           let j = became-emitted i in
           let a = advance inp (room b) (events-of o) p in
-          let e : with-left (p .left) q ≡ a = ap (with-left (p .left)) (j .parser ∙ advance-raised inp (room b) (p .left - 1) (events-of o) p) ∙ ap (λ (m : ℕ). with-left m a) (sym (advance-left inp (room b) (events-of o) p)) in
+          let e : with-left (p .left) q ≡ a = ap (with-left (p .left)) (j .parser ∙ advance-raised inp (room b) (p .left - 1) (events-of o) p)
+          ∙ ap (λ (m : ℕ). with-left m a) (sym (advance-left inp (room b) (events-of o) p)) in
           became-same (λ h. sym (within-left (p .left) (rest inp p) o f)) (became (record { parser = e; words = j .words; long = j .long }) (i .ends))
 
   -- An opener too many.

@@ -23,7 +23,8 @@ use Rattle.parser.specs.Reads.{stands, heads-of, Read, ReadNode, ReadOpe
 use Rattle.parser.proofs.Emitted.{started-left, preceded-left}
 use Rattle.parser.proofs.Join.{at-level, read-left, r-seq, r-inside, n-inside, r-opens}
 use Rattle.parser.proofs.Loops.{Turning, w-again}
-use Rattle.parser.proofs.Chains.{Chaining, c-again, x-turn}
+use Rattle.parser.proofs.Nodes.{x-turn}
+use Rattle.parser.proofs.Chains.{Chaining, c-again}
 
 -- the level outside an opener
 abbrev pub same : ℕ → ℕ
@@ -34,11 +35,13 @@ module _ (level : ℕ → ℕ) {inp : Input} {p : Parser} {b : List ℕ} where
       Read inp (level (p .left)) (seq P Q) p b r e
   seq-at x y = r-seq x (at-level (ap level (read-left x)) y)
 
-  pub inside-at : {k : ℕ} {P : Part Rule} {s : Started} {c : List ℕ} {q : Parser} {e : List ℕ} {r : Completed} {f : List ℕ} → Starts p b s c (push (event-word (start 0 0))) →
+  pub inside-at : {k : ℕ} {P : Part Rule} {s : Started} {c : List ℕ} {q : Parser} {e : List ℕ} {r : Completed} {f : List ℕ} →
+      Starts p b s c (push (event-word (start 0 0))) →
       Read inp (level (s .p .left)) P (s .p) c q e → Completes (s .m) k q e r f → Read inp (level (p .left)) (inside k P) p b (r .p) f
   inside-at x y z = r-inside x (at-level (ap level (started-left x)) y) z
 
-  pub node-at : {k : ℕ} {P : Part Rule} {s : Started} {c : List ℕ} {q : Parser} {e : List ℕ} {r : Completed} {f : List ℕ} → Starts p b s c (push (event-word (start 0 0))) →
+  pub node-at : {k : ℕ} {P : Part Rule} {s : Started} {c : List ℕ} {q : Parser} {e : List ℕ} {r : Completed} {f : List ℕ} →
+      Starts p b s c (push (event-word (start 0 0))) →
       Read inp (level (s .p .left)) P (s .p) c q e → Completes (s .m) k q e r f → ReadNode inp (level (p .left)) (inside k P) p b r f
   node-at x y z = n-inside x (at-level (ap level (started-left x)) y) z
 
@@ -51,7 +54,8 @@ module _ {inp : Input} {k : ℕ} {P Q : Part Rule} {p₀ : Parser} {b₀ : List 
       Read inp (s .p .left) Q (s .p) c q e → Completes (s .m) k q e r g → Chaining inp (p₀ .left) k P Q p₀ b₀ (r .p) g (r .m .0)
   link-at m t x a y z u = c-again m t x a y (at-level (preceded-left m y ∙ x .left) z) u
 
-  pub turn-at : {o : Choice} {m : CompletedMarker} → single P ≡ true → ReadOperand inp (p₀ .left) P p₀ b₀ (record { p = p; lhs = Node m }) b → stands inp (heads-of Q) p ≡ true →
+  pub turn-at : {o : Choice} {m : CompletedMarker} → single P ≡ true → ReadOperand inp (p₀ .left) P p₀ b₀ (record { p = p; lhs = Node m }) b →
+      stands inp (heads-of Q) p ≡ true →
       Starts p b s c (precede (m .0)) → Read inp (s .p .left) Q (s .p) c q e → Completes (s .m) k q e r g → Read inp (p₀ .left) (suffix o k P Q) p₀ b₀ (r .p) g
   turn-at {o} {m} one x a y z u = x-turn one x a y (at-level (preceded-left (m .0) y ∙ read-left (x .reads)) z) u
 

@@ -3,9 +3,12 @@ pub mod Trivia
 pub mod Tests
 pub mod Marks
 pub mod Emit
+pub mod Counters
 pub mod Emitted
 pub mod Join
 pub mod Taking
 pub mod Loops
+pub mod Turns
+pub mod Nodes
 pub mod Chains
 pub mod Levels

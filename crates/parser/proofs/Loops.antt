@@ -22,7 +22,7 @@ use Rattle.parser.specs.Input.{Input, rest}
 use Rattle.parser.specs.State.{room}
 use Rattle.parser.specs.Reads.{stands, heads-of, reading-at, Became, Read}
 use Rattle.parser.proofs.Pushing.{goes-or-stopped}
-use Rattle.parser.proofs.Emit.{advance-fewer}
+use Rattle.parser.proofs.Counters.{advance-fewer}
 use Rattle.parser.proofs.Join.{became-emitted, became-goes, became-no-more, became-same, became-both, became-nothing, stands-goes, stands-at, read-left, read-long}
 
 -- what there is to read

@@ -95,13 +95,15 @@ module _ {inp : Input} {d m : ℕ} {p : Parser} {b : List ℕ} {r : Parser} {c :
   r-tok-yes {ks} e x = r-took (stands-at inp (ones ks) p e) x
 
   -- a node that begins with any token, where one of some kinds stands
-  pub r-node-head : {k : ℕ} {P : Part Rule} {ks : List ℕ} → stands inp (ones ks) p ≡ true → Read inp d (inside k (seq any P)) p b r c → Read inp d (inside k (seq (tok m ks) P)) p b r c
+  pub r-node-head : {k : ℕ} {P : Part Rule} {ks : List ℕ} → stands inp (ones ks) p ≡ true → Read inp d (inside k (seq any P)) p b r c →
+      Read inp d (inside k (seq (tok m ks) P)) p b r c
   unfolding read step
   r-node-head {k} {P} {ks} e x =
       r-same (λ n h. ap (λ (o : Result). boxed k (both o (read grammar n d P))) (take-one-yes m ks (rest inp p) (stands-at inp (ones ks) p e h))) x
 
   -- A message where nothing is taken.
-  pub r-message : {P : Part Rule} → ((n : ℕ) → p .stop ≡ 0 → done (err (message m) nil) (rest inp p) ≡ reading-at inp n d P p) → Ran (push (event-word (error (message m)))) p b r c →
+  pub r-message : {P : Part Rule} → ((n : ℕ) → p .stop ≡ 0 → done (err (message m) nil) (rest inp p) ≡ reading-at inp n d P p) →
+      Ran (push (event-word (error (message m)))) p b r c →
       Read inp d P p b r c
   unfolding emit enter events-of events left-over
   r-message f x = record { did = λ n l. became-same (f n) missing }
@@ -120,7 +122,8 @@ module _ {inp : Input} {d m : ℕ} {p : Parser} {b : List ℕ} {r : Parser} {c :
 -- A TOKEN THAT STOOD BEFORE A START ------------------------------------------------------------------------------------
 
 module _ {inp : Input} {d l : ℕ} {ks : List ℕ} {p : Parser} {b : List ℕ} {s : Started} {c : List ℕ} {r : Parser} {e : List ℕ} where
-  pub bumped-inside : Starts p b s c (push (event-word (start 0 0))) → stands inp (ones ks) p ≡ true → Read inp d any (s .p) c r e → Read inp d (tok l ks) (s .p) c r e
+  pub bumped-inside : Starts p b s c (push (event-word (start 0 0))) → stands inp (ones ks) p ≡ true → Read inp d any (s .p) c r e →
+      Read inp d (tok l ks) (s .p) c r e
   bumped-inside x t y =
       let z : Emitted inp (start 0 0 ∷ []) p b (s .p) c = emitted-started x in
       r-took (λ h. ap (at (ones ks)) (rest-started z) ∙ stands-at inp (ones ks) p t (emitted-goes z h)) y

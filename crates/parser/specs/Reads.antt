@@ -52,10 +52,12 @@ pub record Read (inp : Input) (d : ℕ) (P : Part Rule) (p : Parser) (b : List �
 
 -- MARKERS --------------------------------------------------------------------------------------------------------------
 
+-- The step f pushed a Start, and its marker is where that stands.
 pub record Starts (p : Parser) (b : List ℕ) (s : Started) (c : List ℕ) (f : State → State) : Type 0 where
   pub ran : state (s .p) c ≡ f (state p b)
   pub mark : s .m .0 ≡ p .used
 
+-- The node of the marker m was completed as of kind k; its completed marker is the same place.
 pub record Completes (m : Marker) (k : ℕ) (p : Parser) (b : List ℕ) (r : Completed) (c : List ℕ) : Type 0 where
   pub ran : state (r .p) c ≡ complete (m .0) k (state p b)
   pub mark : r .m .0 ≡ m .0
@@ -70,7 +72,8 @@ unfoldable pub marked : (used : ℕ) → Result → Lhs
 marked used (miss m ys) = Nothing
 marked used (done f ys) = Node (record { 0 = used - behind-start f })
 
--- The contract of a reader of an operand, a product or a sum: its completed marker too, unless it stopped.
+-- The contract of a reader of an operand, a product or a sum: its completed marker too. What marker a stopped reader hands back is
+-- free.
 pub record ReadOperand (inp : Input) (d : ℕ) (P : Part Rule) (p : Parser) (b : List ℕ) (o : Operand) (c : List ℕ) : Type 0 where
   pub reads : Read inp d P p b (o .p) c
   pub mark : (n : ℕ) → length (rest inp p) < n → p .stop ≡ 0 → o .p .stop ≡ 0 → o .lhs ≡ marked (o .p .used) (reading-at inp n d P p)

@@ -10,6 +10,7 @@ use Rattle.predictive.specs.Events.{Event, start, token, finish, error}
 use Rattle.aadl.specs.Limits.{most-events}
 use Rattle.aadl.specs.Reading.{event-word}
 use Rattle.parser.specs.declared.Parser.{Parser}
+use Rattle.parser.specs.declared.Place.{Place}
 use Rattle.parser.specs.Input.{Input, next}
 
 pub record State : Type 0 where
@@ -30,13 +31,19 @@ going f s = cond (eqb (s .parser .stop) 0) (f s) s
 abbrev pub with-left : ℕ → Parser → Parser
 with-left l p = record { at = p .at; byte = p .byte; taken = p .taken; used = p .used; left = l; stop = p .stop }
 
+abbrev pub with-stop : ℕ → Parser → Parser
+with-stop n p = record { at = p .at; byte = p .byte; taken = p .taken; used = p .used; left = p .left; stop = n }
+
+abbrev pub with-used : ℕ → Parser → Parser
+with-used n p = record { at = p .at; byte = p .byte; taken = p .taken; used = n; left = p .left; stop = p .stop }
+
 abbrev pub stopped : ℕ → State → State
-stopped n s = record { parser = record { at = s .parser .at; byte = s .parser .byte; taken = s .parser .taken; used = s .parser .used; left = s .parser .left; stop = n }; words = s .words }
+stopped n s = state (with-stop n (s .parser)) (s .words)
 
 abbrev pub pushed : ℕ → State → State
-pushed w s = record { parser = record { at = s .parser .at; byte = s .parser .byte; taken = s .parser .taken; used = s .parser .used + 1; left = s .parser .left; stop = s .parser .stop }; words = set (s .words) (s .parser .used) w }
+pushed w s = state (with-used (s .parser .used + 1) (s .parser)) (set (s .words) (s .parser .used) w)
 
--- "5: no event word left."
+-- Where "no event word left" stops it, the refusal is 5 ..
 abbrev pub push-or-stop : ℕ → State → State
 push-or-stop w s = cond (ltb (s .parser .used) (room (s .words))) (pushed w s) (stopped 5 s)
 
@@ -44,14 +51,17 @@ unfoldable pub push : ℕ → State → State
 unfolding going
 push w s = going (push-or-stop w) s
 
--- "6: it would be the 65th open one."
+-- .. and 6 where an opener "would be the 65th open one".
 unfoldable pub halt : State → State
 unfolding going
 halt s = going (stopped 6) s
 
 -- The token where the parser stands is passed. At most as many are counted as there can be events.
+abbrev pub moved-on : Place → (taken : ℕ) → Parser → Parser
+moved-on at n p = record { at = at .at; byte = at .byte; taken = n; used = p .used; left = p .left; stop = p .stop }
+
 abbrev pub passed : Input → State → State
-passed inp s = record { parser = record { at = next inp (s .parser) .at; byte = next inp (s .parser) .byte; taken = min (s .parser .taken + 1) most-events; used = s .parser .used; left = s .parser .left; stop = s .parser .stop }; words = s .words }
+passed inp s = state (moved-on (next inp (s .parser)) (min (s .parser .taken + 1) most-events) (s .parser)) (s .words)
 
 unfoldable pub pass : Input → State → State
 unfolding going

@@ -220,6 +220,16 @@ pub fn at_name(text: &[u8], toks: &[u32], p: Parser) -> bool
 
 // EVENTS
 
+// An event word is class × 16,777,216 + kind × 65,536 + last; class 0 is a Start, whose last is its forward parent.
+
+// a Token, whose last is 1, without its kind
+const TOKEN: u32 = 16777217;
+
+const FINISH: u32 = 33554432;
+
+// an Error without its message
+const MESSAGE: u32 = 50331648;
+
 fn push_event(events: &mut [u32], p: Parser, w: u32) -> Parser
     ensures { λ r. ⌜ Ran (S.push w) p (now (events .entry)) r (now (events .exit)) ⌝ }
 {
@@ -254,7 +264,7 @@ pub fn error(events: &mut [u32], p: Parser, m: u32) -> Parser
     requires { ⌜ m < 512 ⌝ }
     ensures { λ r. ⌜ Ran (S.push (event-word (E.error (message m)))) p (now (events .entry)) r (now (events .exit)) ⌝ }
 {
-    push_event(events, p, 50331648 + m)
+    push_event(events, p, MESSAGE + m)
 }
 
 pub fn start(events: &mut [u32], p: Parser) -> Started
@@ -265,7 +275,7 @@ pub fn start(events: &mut [u32], p: Parser) -> Started
     Started { p: q, m }
 }
 
-// Markers
+// MARKERS
 
 pub fn complete(events: &mut [u32], p: Parser, m: Marker, kind: u32) -> Completed
     requires { ⌜ kind < 256 ⌝ }
@@ -281,7 +291,7 @@ pub fn complete(events: &mut [u32], p: Parser, m: Marker, kind: u32) -> Complete
     if i < events.len() {
         events[i] = kind * 65536;
     }
-    let q = push_event(events, p, 33554432);
+    let q = push_event(events, p, FINISH);
     Completed {
         p: q,
         m: CompletedMarker(i),
@@ -384,7 +394,7 @@ pub fn bump_any(text: &[u8], toks: &[u32], events: &mut [u32], p: Parser) -> Par
     if symbol == END {
         return p;
     }
-    let q = push_event(events, p, 16777217 + shown(symbol) * 65536);
+    let q = push_event(events, p, TOKEN + shown(symbol) * 65536);
     pass(text, toks, q)
 }
 

@@ -22,7 +22,8 @@ use Rattle.parser.proofs.Join.{r-same, r-seq, stands-at}
 use Rattle.parser.proofs.Taking.{r-message}
 
 -- Two words in a row are one after the other.
-pub r-two : {inp : Input} {d k l : ℕ} {p : Parser} {b : List ℕ} {q : Parser} {c : List ℕ} {r : Parser} {e : List ℕ} → Read inp d (tok (expected k) (k ∷ [])) p b q c →
+pub r-two : {inp : Input} {d k l : ℕ} {p : Parser} {b : List ℕ} {q : Parser} {c : List ℕ} {r : Parser} {e : List ℕ} →
+    Read inp d (tok (expected k) (k ∷ [])) p b q c →
     Read inp d (tok (expected l) (l ∷ [])) q c r e → Read inp d (pair k l) p b r e
 unfolding read step take-two
 r-two x y = r-same (λ n h. refl) (r-seq x y)

@@ -1,5 +1,6 @@
 -- The cycle of readers: an operand may hold an expression, with one opener fewer left. One law for each statement (Join, Levels, Chains), the first token by Operands. Assumes nothing.
 use native.Mathlib.Omega.{arith}
+use mathlib.Core.List.{List}
 use mathlib.Core.Path.{refl, sym, ap, _∙_}
 use Rattle.predictive.specs.Forest.{nested}
 use Rattle.predictive.specs.Grammar.{free}
@@ -12,43 +13,35 @@ use Rattle.parser.proofs.Emitted.{started-left, preceded-left, completed-left}
 use Rattle.parser.proofs.Join.{read-left, read-long, r-opt-yes, r-opt-no, r-until, r-until-at-once, r-rule, r-deep}
 use Rattle.parser.proofs.Taking.{r-fail, bumped-after}
 use Rattle.parser.proofs.Loops.{Turning, μ, w-holds, w-less, w-done}
-use Rattle.parser.proofs.Chains.{o-none, x-none, x-stay, c-none, c-holds, c-less, c-done}
+use Rattle.parser.proofs.Nodes.{o-none, x-none, x-stay}
+use Rattle.parser.proofs.Chains.{c-none, c-holds, c-less, c-done}
 use Rattle.parser.proofs.Levels.{seq-at, inside-at, node-at, again-at, link-at, turn-at, told, untold, same}
 use Rattle.categories.proofs.Words.{stands-neither}
 use Rattle.expressions.proofs.Operands.{r-negated, arm, openers, others, no-operand, opened-by, opened-else, none-stands, opener-operand, single-operand, single-product, single-sum, factor, term, next-item, Chained}
 use Prim.Native.Nat.{ℕ, suc, _<_, _+_, _*_}
 use borrow.Author.Needs.{needs}
-use borrow.Fn.Kinds.{In}
+use borrow.Fn.Kinds.{In, PK}
 use borrow.Fn.PlainCycle.{Measures, is, falls, and}
 use Rattle.expressions.proofs.additive_expression.Reads as additive-expression
 use Rattle.expressions.proofs.additive_expression.Kinds as additive-expression-kinds
 use Rattle.expressions.proofs.+additive_expression+delta_value+list_value+multiplicative_expression+not_value+opener_value+property_expression+property_expression_primary+record_value+signed_value.Lts-additive_expression as additive-expression-lts
 use Rattle.expressions.proofs.delta_value.Reads as delta-value
-use Rattle.expressions.proofs.delta_value.Kinds as delta-value-kinds
 use Rattle.expressions.proofs.+additive_expression+delta_value+list_value+multiplicative_expression+not_value+opener_value+property_expression+property_expression_primary+record_value+signed_value.Lts-delta_value as delta-value-lts
 use Rattle.expressions.proofs.list_value.Reads as list-value
-use Rattle.expressions.proofs.list_value.Kinds as list-value-kinds
 use Rattle.expressions.proofs.+additive_expression+delta_value+list_value+multiplicative_expression+not_value+opener_value+property_expression+property_expression_primary+record_value+signed_value.Lts-list_value as list-value-lts
 use Rattle.expressions.proofs.multiplicative_expression.Reads as multiplicative-expression
-use Rattle.expressions.proofs.multiplicative_expression.Kinds as multiplicative-expression-kinds
 use Rattle.expressions.proofs.+additive_expression+delta_value+list_value+multiplicative_expression+not_value+opener_value+property_expression+property_expression_primary+record_value+signed_value.Lts-multiplicative_expression as multiplicative-expression-lts
 use Rattle.expressions.proofs.not_value.Reads as not-value
-use Rattle.expressions.proofs.not_value.Kinds as not-value-kinds
 use Rattle.expressions.proofs.+additive_expression+delta_value+list_value+multiplicative_expression+not_value+opener_value+property_expression+property_expression_primary+record_value+signed_value.Lts-not_value as not-value-lts
 use Rattle.expressions.proofs.opener_value.Reads as opener-value
-use Rattle.expressions.proofs.opener_value.Kinds as opener-value-kinds
 use Rattle.expressions.proofs.+additive_expression+delta_value+list_value+multiplicative_expression+not_value+opener_value+property_expression+property_expression_primary+record_value+signed_value.Lts-opener_value as opener-value-lts
 use Rattle.expressions.proofs.property_expression.Reads as property-expression
-use Rattle.expressions.proofs.property_expression.Kinds as property-expression-kinds
 use Rattle.expressions.proofs.+additive_expression+delta_value+list_value+multiplicative_expression+not_value+opener_value+property_expression+property_expression_primary+record_value+signed_value.Lts-property_expression as property-expression-lts
 use Rattle.expressions.proofs.property_expression_primary.Reads as property-expression-primary
-use Rattle.expressions.proofs.property_expression_primary.Kinds as property-expression-primary-kinds
 use Rattle.expressions.proofs.+additive_expression+delta_value+list_value+multiplicative_expression+not_value+opener_value+property_expression+property_expression_primary+record_value+signed_value.Lts-property_expression_primary as property-expression-primary-lts
 use Rattle.expressions.proofs.record_value.Reads as record-value
-use Rattle.expressions.proofs.record_value.Kinds as record-value-kinds
 use Rattle.expressions.proofs.+additive_expression+delta_value+list_value+multiplicative_expression+not_value+opener_value+property_expression+property_expression_primary+record_value+signed_value.Lts-record_value as record-value-lts
 use Rattle.expressions.proofs.signed_value.Reads as signed-value
-use Rattle.expressions.proofs.signed_value.Kinds as signed-value-kinds
 use Rattle.expressions.proofs.+additive_expression+delta_value+list_value+multiplicative_expression+not_value+opener_value+property_expression+property_expression_primary+record_value+signed_value.Lts-signed_value as signed-value-lts
 use Rattle.expressions.proofs.at_factor.Reads as at-factor-reads
 use Rattle.expressions.proofs.at_opener.Reads as at-opener-reads
@@ -80,104 +73,18 @@ use Rattle.expressions.proofs.+additive_expression+delta_value+list_val
 
 -- MEASURES: the openers left, and by how much a function stands above those that it calls with as many
 
-abbrev μ-additive-expression : Measures 3 additive-expression-kinds.ps ℕ
-μ-additive-expression κs a = a .1 .1 .1 .0 .left * 8 + 3
+abbrev ps : List (PK 3)
+ps = additive-expression-kinds.ps
 
-abbrev μ-delta-value : Measures 3 delta-value-kinds.ps ℕ
-μ-delta-value κs a = a .1 .1 .1 .0 .left * 8 + 4
+abbrev openers-left : (rank : ℕ) → Measures 3 ps ℕ
+openers-left n κs a = a .1 .1 .1 .0 .left * 8 + n
 
-abbrev μ-list-value : Measures 3 list-value-kinds.ps ℕ
-μ-list-value κs a = a .1 .1 .1 .0 .left * 8 + 6
+-- a function of a rank, called where its measure is t, and one that is called by it
+abbrev here : (rank : ℕ) → In 3 ps → ℕ → In 3 ps
+here n pre t = and 3 ps (is 3 ps (openers-left n) t) pre
 
-abbrev μ-multiplicative-expression : Measures 3 multiplicative-expression-kinds.ps ℕ
-μ-multiplicative-expression κs a = a .1 .1 .1 .0 .left * 8 + 2
-
-abbrev μ-not-value : Measures 3 not-value-kinds.ps ℕ
-μ-not-value κs a = a .1 .1 .1 .0 .left * 8 + 6
-
-abbrev μ-opener-value : Measures 3 opener-value-kinds.ps ℕ
-μ-opener-value κs a = a .1 .1 .1 .0 .left * 8 + 0
-
-abbrev μ-property-expression : Measures 3 property-expression-kinds.ps ℕ
-μ-property-expression κs a = a .1 .1 .1 .0 .left * 8 + 5
-
-abbrev μ-property-expression-primary : Measures 3 property-expression-primary-kinds.ps ℕ
-μ-property-expression-primary κs a = a .1 .1 .1 .0 .left * 8 + 1
-
-abbrev μ-record-value : Measures 3 record-value-kinds.ps ℕ
-μ-record-value κs a = a .1 .1 .1 .0 .left * 8 + 6
-
-abbrev μ-signed-value : Measures 3 signed-value-kinds.ps ℕ
-μ-signed-value κs a = a .1 .1 .1 .0 .left * 8 + 6
-
-abbrev additive-expression-at : ℕ → In 3 additive-expression-kinds.ps
-additive-expression-at t = and 3 additive-expression-kinds.ps (is 3 additive-expression-kinds.ps μ-additive-expression t) additive-expression.Pre
-
-abbrev additive-expression-below : ℕ → In 3 additive-expression-kinds.ps
-additive-expression-below t =
-    and 3 additive-expression-kinds.ps (falls 3 additive-expression-kinds.ps _<_ μ-additive-expression t) additive-expression.Pre
-
-abbrev delta-value-at : ℕ → In 3 delta-value-kinds.ps
-delta-value-at t = and 3 delta-value-kinds.ps (is 3 delta-value-kinds.ps μ-delta-value t) delta-value.Pre
-
-abbrev delta-value-below : ℕ → In 3 delta-value-kinds.ps
-delta-value-below t = and 3 delta-value-kinds.ps (falls 3 delta-value-kinds.ps _<_ μ-delta-value t) delta-value.Pre
-
-abbrev list-value-at : ℕ → In 3 list-value-kinds.ps
-list-value-at t = and 3 list-value-kinds.ps (is 3 list-value-kinds.ps μ-list-value t) list-value.Pre
-
-abbrev list-value-below : ℕ → In 3 list-value-kinds.ps
-list-value-below t = and 3 list-value-kinds.ps (falls 3 list-value-kinds.ps _<_ μ-list-value t) list-value.Pre
-
-abbrev multiplicative-expression-at : ℕ → In 3 multiplicative-expression-kinds.ps
-multiplicative-expression-at t =
-    and 3 multiplicative-expression-kinds.ps (is 3 multiplicative-expression-kinds.ps μ-multiplicative-expression t) multiplicative-expression.Pre
-
-abbrev multiplicative-expression-below : ℕ → In 3 multiplicative-expression-kinds.ps
-multiplicative-expression-below t =
-    and 3 multiplicative-expression-kinds.ps (falls 3 multiplicative-expression-kinds.ps _<_ μ-multiplicative-expression t)
-    multiplicative-expression.Pre
-
-abbrev not-value-at : ℕ → In 3 not-value-kinds.ps
-not-value-at t = and 3 not-value-kinds.ps (is 3 not-value-kinds.ps μ-not-value t) not-value.Pre
-
-abbrev not-value-below : ℕ → In 3 not-value-kinds.ps
-not-value-below t = and 3 not-value-kinds.ps (falls 3 not-value-kinds.ps _<_ μ-not-value t) not-value.Pre
-
-abbrev opener-value-at : ℕ → In 3 opener-value-kinds.ps
-opener-value-at t = and 3 opener-value-kinds.ps (is 3 opener-value-kinds.ps μ-opener-value t) opener-value.Pre
-
-abbrev opener-value-below : ℕ → In 3 opener-value-kinds.ps
-opener-value-below t = and 3 opener-value-kinds.ps (falls 3 opener-value-kinds.ps _<_ μ-opener-value t) opener-value.Pre
-
-abbrev property-expression-at : ℕ → In 3 property-expression-kinds.ps
-property-expression-at t = and 3 property-expression-kinds.ps (is 3 property-expression-kinds.ps μ-property-expression t) property-expression.Pre
-
-abbrev property-expression-below : ℕ → In 3 property-expression-kinds.ps
-property-expression-below t =
-    and 3 property-expression-kinds.ps (falls 3 property-expression-kinds.ps _<_ μ-property-expression t) property-expression.Pre
-
-abbrev property-expression-primary-at : ℕ → In 3 property-expression-primary-kinds.ps
-property-expression-primary-at t =
-    and 3 property-expression-primary-kinds.ps (is 3 property-expression-primary-kinds.ps μ-property-expression-primary t)
-    property-expression-primary.Pre
-
-abbrev property-expression-primary-below : ℕ → In 3 property-expression-primary-kinds.ps
-property-expression-primary-below t =
-    and 3 property-expression-primary-kinds.ps (falls 3 property-expression-primary-kinds.ps _<_ μ-property-expression-primary t)
-    property-expression-primary.Pre
-
-abbrev record-value-at : ℕ → In 3 record-value-kinds.ps
-record-value-at t = and 3 record-value-kinds.ps (is 3 record-value-kinds.ps μ-record-value t) record-value.Pre
-
-abbrev record-value-below : ℕ → In 3 record-value-kinds.ps
-record-value-below t = and 3 record-value-kinds.ps (falls 3 record-value-kinds.ps _<_ μ-record-value t) record-value.Pre
-
-abbrev signed-value-at : ℕ → In 3 signed-value-kinds.ps
-signed-value-at t = and 3 signed-value-kinds.ps (is 3 signed-value-kinds.ps μ-signed-value t) signed-value.Pre
-
-abbrev signed-value-below : ℕ → In 3 signed-value-kinds.ps
-signed-value-below t = and 3 signed-value-kinds.ps (falls 3 signed-value-kinds.ps _<_ μ-signed-value t) signed-value.Pre
+abbrev below : (rank : ℕ) → In 3 ps → ℕ → In 3 ps
+below n pre t = and 3 ps (falls 3 ps _<_ (openers-left n) t) pre
 
 -- THE READERS
 
@@ -189,7 +96,7 @@ additive-expression-μ-loop text toks events₀ q₀ lhs₀ events q lhs = μ (i
 
 abbrev additive-expression-calls : ℕ → additive-expression-lts.Claims
 additive-expression-calls t = (
-  multiplicative-expression-below t,
+  below 2 multiplicative-expression.Pre t,
   multiplicative-expression.Post,
   at-sign-reads.Asked,
   at-sign-reads.Learnt,
@@ -202,7 +109,7 @@ additive-expression-calls t = (
 )
 
 additive-expression-returns-2 : (t : ℕ) →
-    additive-expression-lts.Need-returns-2 (additive-expression-calls t) (additive-expression-at t) additive-expression.Post additive-expression-Inv-loop additive-expression-μ-loop
+    additive-expression-lts.Need-returns-2 (additive-expression-calls t) (here 3 additive-expression.Pre t) additive-expression.Post additive-expression-Inv-loop additive-expression-μ-loop
 unfolding ones first null takes
 additive-expression-returns-2 t c =
     let at-at-sign = c .before in
@@ -213,10 +120,10 @@ additive-expression-returns-2 t c =
     (sym (at-at-sign .at-sign .ensures) ∙ c .if1 .left)
 
 additive-expression-done : {M : Type 1} (t : ℕ) →
-    additive-expression-lts.Closed (additive-expression-calls t) (additive-expression-at t) additive-expression.Post M
+    additive-expression-lts.Closed (additive-expression-calls t) (here 3 additive-expression.Pre t) additive-expression.Post M
 unfolding ones first null takes
 additive-expression-done t =
-    additive-expression-lts.spec (additive-expression-calls t) (additive-expression-at t) additive-expression.Post additive-expression-Inv-loop
+    additive-expression-lts.spec (additive-expression-calls t) (here 3 additive-expression.Pre t) additive-expression.Post additive-expression-Inv-loop
     additive-expression-μ-loop
     (λ c κs.
     let at-pre = c .before .before .before .before in
@@ -282,13 +189,13 @@ delta-value-calls t = (
   start-reads.Learnt,
   bump-reads.Asked,
   bump-reads.Learnt,
-  additive-expression-below t,
+  below 3 additive-expression.Pre t,
   additive-expression.Post,
   complete-reads.Asked,
   complete-reads.Learnt,
 )
 
-delta-value-returns : (t : ℕ) → delta-value-lts.Need-returns (delta-value-calls t) (delta-value-at t) delta-value.Post
+delta-value-returns : (t : ℕ) → delta-value-lts.Need-returns (delta-value-calls t) (here 4 delta-value.Pre t) delta-value.Post
 unfolding ones first null
 delta-value-returns t c =
     let at-complete = c .before .before .before in
@@ -301,10 +208,10 @@ delta-value-returns t c =
     (inside-at same (at-start .start .ensures) (seq-at same (at-bump .bump .ensures _) (at-additive-expression .additive-expression .ensures .reads))
     (at-complete .complete .ensures))
 
-delta-value-done : {M : Type 1} (t : ℕ) → delta-value-lts.Closed (delta-value-calls t) (delta-value-at t) delta-value.Post M
+delta-value-done : {M : Type 1} (t : ℕ) → delta-value-lts.Closed (delta-value-calls t) (here 4 delta-value.Pre t) delta-value.Post M
 unfolding ones first null
 delta-value-done t =
-    delta-value-lts.spec (delta-value-calls t) (delta-value-at t) delta-value.Post
+    delta-value-lts.spec (delta-value-calls t) (here 4 delta-value.Pre t) delta-value.Post
     (λ c κs. search needs) (λ c κs. search needs) (λ c κs. search needs)
     (λ c κs.
     let at-bump = c .before .before .before in
@@ -334,13 +241,13 @@ list-value-calls t = (
   at-reads.Learnt,
   complete-reads.Asked,
   complete-reads.Learnt,
-  property-expression-below t,
+  below 5 property-expression.Pre t,
   property-expression.Post,
   expect-reads.Asked,
   expect-reads.Learnt,
 )
 
-list-value-returns : (t : ℕ) → list-value-lts.Need-returns (list-value-calls t) (list-value-at t) list-value.Post list-value-Inv-loop list-value-μ-loop
+list-value-returns : (t : ℕ) → list-value-lts.Need-returns (list-value-calls t) (here 6 list-value.Pre t) list-value.Post list-value-Inv-loop list-value-μ-loop
 unfolding ones first null takes
 list-value-returns t c =
     let at-complete = c .before .before in
@@ -354,7 +261,7 @@ list-value-returns t c =
     (at-complete .complete .ensures)
 
 list-value-returns-2 : (t : ℕ) →
-    list-value-lts.Need-returns-2 (list-value-calls t) (list-value-at t) list-value.Post list-value-Inv-loop list-value-μ-loop
+    list-value-lts.Need-returns-2 (list-value-calls t) (here 6 list-value.Pre t) list-value.Post list-value-Inv-loop list-value-μ-loop
 unfolding ones first null takes
 list-value-returns-2 t c =
     let at-complete2 = c .before .before in
@@ -374,10 +281,10 @@ list-value-returns-2 t c =
     (w-done (at-loop .loop .inv) (sym (at-at2 .at2 .ensures) ∙ at-if2 .if2 .left))) (at-expect .expect .ensures _)))
     (at-complete2 .complete2 .ensures)
 
-list-value-done : {M : Type 1} (t : ℕ) → list-value-lts.Closed (list-value-calls t) (list-value-at t) list-value.Post M
+list-value-done : {M : Type 1} (t : ℕ) → list-value-lts.Closed (list-value-calls t) (here 6 list-value.Pre t) list-value.Post M
 unfolding ones first null takes
 list-value-done t =
-    list-value-lts.spec (list-value-calls t) (list-value-at t) list-value.Post list-value-Inv-loop list-value-μ-loop
+    list-value-lts.spec (list-value-calls t) (here 6 list-value.Pre t) list-value.Post list-value-Inv-loop list-value-μ-loop
     (λ c κs. search needs) (λ c κs. search needs) (λ c κs. search needs) (λ c κs. search needs) (λ c κs. search needs)
     (λ c. read-long (list-value-returns t c .reads))
     (list-value-returns t)
@@ -431,7 +338,7 @@ multiplicative-expression-μ-loop text toks events₀ q₀ lhs₀ events q lhs =
 
 abbrev multiplicative-expression-calls : ℕ → multiplicative-expression-lts.Claims
 multiplicative-expression-calls t = (
-  property-expression-primary-below t,
+  below 1 property-expression-primary.Pre t,
   property-expression-primary.Post,
   at-factor-reads.Asked,
   at-factor-reads.Learnt,
@@ -444,7 +351,7 @@ multiplicative-expression-calls t = (
 )
 
 multiplicative-expression-returns-2 : (t : ℕ) →
-    multiplicative-expression-lts.Need-returns-2 (multiplicative-expression-calls t) (multiplicative-expression-at t) multiplicative-expression.Post multiplicative-expression-Inv-loop multiplicative-expression-μ-loop
+    multiplicative-expression-lts.Need-returns-2 (multiplicative-expression-calls t) (here 2 multiplicative-expression.Pre t) multiplicative-expression.Post multiplicative-expression-Inv-loop multiplicative-expression-μ-loop
 unfolding ones first null takes
 multiplicative-expression-returns-2 t c =
     let at-at-factor = c .before in
@@ -455,10 +362,10 @@ multiplicative-expression-returns-2 t c =
     (sym (at-at-factor .at-factor .ensures) ∙ c .if1 .left)
 
 multiplicative-expression-done : {M : Type 1} (t : ℕ) →
-    multiplicative-expression-lts.Closed (multiplicative-expression-calls t) (multiplicative-expression-at t) multiplicative-expression.Post M
+    multiplicative-expression-lts.Closed (multiplicative-expression-calls t) (here 2 multiplicative-expression.Pre t) multiplicative-expression.Post M
 unfolding ones first null takes
 multiplicative-expression-done t =
-    multiplicative-expression-lts.spec (multiplicative-expression-calls t) (multiplicative-expression-at t) multiplicative-expression.Post
+    multiplicative-expression-lts.spec (multiplicative-expression-calls t) (here 2 multiplicative-expression.Pre t) multiplicative-expression.Post
     multiplicative-expression-Inv-loop multiplicative-expression-μ-loop
     (λ c κs.
     let at-pre = c .before .before .before .before in
@@ -523,13 +430,13 @@ not-value-calls t = (
   start-reads.Learnt,
   bump-reads.Asked,
   bump-reads.Learnt,
-  property-expression-below t,
+  below 5 property-expression.Pre t,
   property-expression.Post,
   complete-reads.Asked,
   complete-reads.Learnt,
 )
 
-not-value-returns : (t : ℕ) → not-value-lts.Need-returns (not-value-calls t) (not-value-at t) not-value.Post
+not-value-returns : (t : ℕ) → not-value-lts.Need-returns (not-value-calls t) (here 6 not-value.Pre t) not-value.Post
 unfolding ones
 not-value-returns t c =
     let at-complete = c .before .before in
@@ -539,10 +446,10 @@ not-value-returns t c =
     node-at suc (at-start .start .ensures) (seq-at suc (at-bump .bump .ensures _) (r-negated (at-property-expression .property-expression .ensures)))
     (at-complete .complete .ensures)
 
-not-value-done : {M : Type 1} (t : ℕ) → not-value-lts.Closed (not-value-calls t) (not-value-at t) not-value.Post M
+not-value-done : {M : Type 1} (t : ℕ) → not-value-lts.Closed (not-value-calls t) (here 6 not-value.Pre t) not-value.Post M
 unfolding ones
 not-value-done t =
-    not-value-lts.spec (not-value-calls t) (not-value-at t) not-value.Post
+    not-value-lts.spec (not-value-calls t) (here 6 not-value.Pre t) not-value.Post
     (λ c κs. search needs) (λ c κs. search needs)
     (λ c κs.
     let at-bump = c .before .before .before in
@@ -561,22 +468,22 @@ opener-value-calls t = (
   with-left-reads.Learnt,
   current-reads.Asked,
   current-reads.Learnt,
-  not-value-below t,
+  below 6 not-value.Pre t,
   not-value.Post,
   closed-reads.Asked,
   closed-reads.Learnt,
-  list-value-below t,
+  below 6 list-value.Pre t,
   list-value.Post,
-  record-value-below t,
+  below 6 record-value.Pre t,
   record-value.Post,
-  signed-value-below t,
+  below 6 signed-value.Pre t,
   signed-value.Post,
 )
 
-opener-value-done : {M : Type 1} (t : ℕ) → opener-value-lts.Closed (opener-value-calls t) (opener-value-at t) opener-value.Post M
+opener-value-done : {M : Type 1} (t : ℕ) → opener-value-lts.Closed (opener-value-calls t) (here 0 opener-value.Pre t) opener-value.Post M
 unfolding read step first null ones
 opener-value-done t =
-    opener-value-lts.spec (opener-value-calls t) (opener-value-at t) opener-value.Post
+    opener-value-lts.spec (opener-value-calls t) (here 0 opener-value.Pre t) opener-value.Post
     (λ c κs. search needs)
     (λ c.
     let at-if1 = c .before in
@@ -646,7 +553,7 @@ opener-value-done t =
 
 abbrev property-expression-calls : ℕ → property-expression-lts.Claims
 property-expression-calls t = (
-  additive-expression-below t,
+  below 3 additive-expression.Pre t,
   additive-expression.Post,
   at-reads.Asked,
   at-reads.Learnt,
@@ -654,14 +561,14 @@ property-expression-calls t = (
   precede-reads.Learnt,
   bump-reads.Asked,
   bump-reads.Learnt,
-  delta-value-below t,
+  below 4 delta-value.Pre t,
   delta-value.Post,
   complete-reads.Asked,
   complete-reads.Learnt,
 )
 
 property-expression-returns-2 : (t : ℕ) →
-    property-expression-lts.Need-returns-2 (property-expression-calls t) (property-expression-at t) property-expression.Post
+    property-expression-lts.Need-returns-2 (property-expression-calls t) (here 5 property-expression.Pre t) property-expression.Post
 unfolding ones first null
 property-expression-returns-2 t c =
     let at-complete = c .before .before .before in
@@ -680,10 +587,10 @@ property-expression-returns-2 t c =
     (at-complete .complete .ensures)
 
 property-expression-done : {M : Type 1} (t : ℕ) →
-    property-expression-lts.Closed (property-expression-calls t) (property-expression-at t) property-expression.Post M
+    property-expression-lts.Closed (property-expression-calls t) (here 5 property-expression.Pre t) property-expression.Post M
 unfolding ones first null
 property-expression-done t =
-    property-expression-lts.spec (property-expression-calls t) (property-expression-at t) property-expression.Post
+    property-expression-lts.spec (property-expression-calls t) (here 5 property-expression.Pre t) property-expression.Post
     (λ c κs.
     let at-pre = c .before .before .before .before in
     omega (arith, at-pre .pre .0))
@@ -734,7 +641,7 @@ abbrev property-expression-primary-calls : ℕ → property-expression-primary-l
 property-expression-primary-calls t = (
   at-opener-reads.Asked,
   at-opener-reads.Learnt,
-  opener-value-below t,
+  below 0 opener-value.Pre t,
   opener-value.Post,
   current-reads.Asked,
   current-reads.Learnt,
@@ -763,10 +670,10 @@ property-expression-primary-calls t = (
 )
 
 property-expression-primary-done : {M : Type 1} (t : ℕ) →
-    property-expression-primary-lts.Closed (property-expression-primary-calls t) (property-expression-primary-at t) property-expression-primary.Post M
+    property-expression-primary-lts.Closed (property-expression-primary-calls t) (here 1 property-expression-primary.Pre t) property-expression-primary.Post M
 unfolding read step first null ones names keywords take-one take-any take-wrong
 property-expression-primary-done t =
-    property-expression-primary-lts.spec (property-expression-primary-calls t) (property-expression-primary-at t) property-expression-primary.Post
+    property-expression-primary-lts.spec (property-expression-primary-calls t) (here 1 property-expression-primary.Pre t) property-expression-primary.Post
     (λ c κs. search needs)
     (λ c κs.
     let at-pre = c .before .before .before .before .before .before in
@@ -877,14 +784,14 @@ record-value-calls t = (
   at-reads.Learnt,
   expect-reads.Asked,
   expect-reads.Learnt,
-  property-expression-below t,
+  below 5 property-expression.Pre t,
   property-expression.Post,
   complete-reads.Asked,
   complete-reads.Learnt,
 )
 
 record-value-returns : (t : ℕ) →
-    record-value-lts.Need-returns (record-value-calls t) (record-value-at t) record-value.Post record-value-Inv-loop record-value-μ-loop
+    record-value-lts.Need-returns (record-value-calls t) (here 6 record-value.Pre t) record-value.Post record-value-Inv-loop record-value-μ-loop
 unfolding ones first null takes
 record-value-returns t c =
     let at-complete2 = c .before .before in
@@ -899,10 +806,10 @@ record-value-returns t c =
     (seq-at suc (w-done (at-loop .loop .inv) (sym (at-at .at .ensures) ∙ at-if1 .if1 .left)) (at-expect3 .expect3 .ensures _)))
     (at-complete2 .complete2 .ensures)
 
-record-value-done : {M : Type 1} (t : ℕ) → record-value-lts.Closed (record-value-calls t) (record-value-at t) record-value.Post M
+record-value-done : {M : Type 1} (t : ℕ) → record-value-lts.Closed (record-value-calls t) (here 6 record-value.Pre t) record-value.Post M
 unfolding ones first null takes
 record-value-done t =
-    record-value-lts.spec (record-value-calls t) (record-value-at t) record-value.Post record-value-Inv-loop record-value-μ-loop
+    record-value-lts.spec (record-value-calls t) (here 6 record-value.Pre t) record-value.Post record-value-Inv-loop record-value-μ-loop
     (λ c κs. search needs) (λ c κs. search needs)
     (λ c. w-holds)
     (λ c κs. search needs) (λ c κs. search needs) (λ c κs. search needs) (λ c κs. search needs)
@@ -966,13 +873,13 @@ signed-value-calls t = (
   start-reads.Learnt,
   bump-any-reads.Asked,
   bump-any-reads.Learnt,
-  property-expression-primary-below t,
+  below 1 property-expression-primary.Pre t,
   property-expression-primary.Post,
   complete-reads.Asked,
   complete-reads.Learnt,
 )
 
-signed-value-returns : (t : ℕ) → signed-value-lts.Need-returns (signed-value-calls t) (signed-value-at t) signed-value.Post
+signed-value-returns : (t : ℕ) → signed-value-lts.Need-returns (signed-value-calls t) (here 6 signed-value.Pre t) signed-value.Post
 unfolding ones
 signed-value-returns t c =
     let at-complete = c .before .before in
@@ -983,10 +890,10 @@ signed-value-returns t c =
     (seq-at suc (at-bump-any .bump-any .ensures _) (r-rule Operand (at-property-expression-primary .property-expression-primary .ensures .reads)))
     (at-complete .complete .ensures)
 
-signed-value-done : {M : Type 1} (t : ℕ) → signed-value-lts.Closed (signed-value-calls t) (signed-value-at t) signed-value.Post M
+signed-value-done : {M : Type 1} (t : ℕ) → signed-value-lts.Closed (signed-value-calls t) (here 6 signed-value.Pre t) signed-value.Post M
 unfolding ones
 signed-value-done t =
-    signed-value-lts.spec (signed-value-calls t) (signed-value-at t) signed-value.Post
+    signed-value-lts.spec (signed-value-calls t) (here 6 signed-value.Pre t) signed-value.Post
     (λ c κs. search needs) (λ c κs. search needs)
     (λ c κs.
     let at-bump-any = c .before .before .before in
@@ -1000,7 +907,7 @@ signed-value-done t =
 pub +additive-expression+delta-value+list-value+multiplicative-expression+not-value+opener-value+property-expression+property-expression-primary+record-value+signed-value-spec :
     {M : Type 1} → statement M
 +additive-expression+delta-value+list-value+multiplicative-expression+not-value+opener-value+property-expression+property-expression-primary+record-value+signed-value-spec =
-    close μ-additive-expression μ-delta-value μ-list-value μ-multiplicative-expression μ-not-value μ-opener-value μ-property-expression
-    μ-property-expression-primary μ-record-value μ-signed-value
+    close (openers-left 3) (openers-left 4) (openers-left 6) (openers-left 2) (openers-left 6) (openers-left 0) (openers-left 5)
+    (openers-left 1) (openers-left 6) (openers-left 6)
     additive-expression-done delta-value-done list-value-done multiplicative-expression-done not-value-done opener-value-done property-expression-done
     property-expression-primary-done record-value-done signed-value-done

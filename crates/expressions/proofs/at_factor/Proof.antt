@@ -12,7 +12,8 @@ use Rattle.expressions.proofs.at_factor.Tie as tie
 returns : tie.Need-returns
 returns c =
     let at-args = c .before .before .before in
-    let a = (at-args .args) in sym (joined-are (input (a .text .now) (a .toks .now)) (a .p) (# STAR) (numbers (SLASH ∷ [])) refl (c .current .ensures) refl)
+    let a = (at-args .args) in sym
+    (joined-are (input (a .text .now) (a .toks .now)) (a .p) (# STAR) (numbers (SLASH ∷ [])) refl (c .current .ensures) refl)
 
 pub at-factor-spec : {M : Type 1} → statement M
 at-factor-spec = tie.close (tie.spec (λ c κs. search needs) returns)

@@ -12,7 +12,9 @@ use Rattle.expressions.proofs.at_opener.Tie as tie
 returns : tie.Need-returns
 returns c =
     let at-args = c .before .before .before in
-    let a = (at-args .args) in sym (joined-are (input (a .text .now) (a .toks .now)) (a .p) (# NOT-KW) (numbers (L-PAREN ∷ L-BRACKET ∷ PLUS ∷ MINUS ∷ [])) refl (c .current .ensures) refl)
+    let a = (at-args .args) in sym
+    (joined-are (input (a .text .now) (a .toks .now)) (a .p) (# NOT-KW) (numbers (L-PAREN ∷ L-BRACKET ∷ PLUS ∷ MINUS ∷ [])) refl (c .current .ensures)
+    refl)
 
 pub at-opener-spec : {M : Type 1} → statement M
 at-opener-spec = tie.close (tie.spec (λ c κs. search needs) returns)

@@ -12,7 +12,8 @@ use Rattle.expressions.proofs.at_sign.Tie as tie
 returns : tie.Need-returns
 returns c =
     let at-args = c .before .before .before in
-    let a = (at-args .args) in sym (joined-are (input (a .text .now) (a .toks .now)) (a .p) (# PLUS) (numbers (MINUS ∷ [])) refl (c .current .ensures) refl)
+    let a = (at-args .args) in sym
+    (joined-are (input (a .text .now) (a .toks .now)) (a .p) (# PLUS) (numbers (MINUS ∷ [])) refl (c .current .ensures) refl)
 
 pub at-sign-spec : {M : Type 1} → statement M
 at-sign-spec = tie.close (tie.spec (λ c κs. search needs) returns)

@@ -1,6 +1,6 @@
 -- Classifiers and their bindings: a law for each statement (Join, Levels); calls fall in the openers left. Assumes nothing.
 use mathlib.Core.Path.{refl, sym, ap, _∙_}
-use mathlib.Core.List.{append-nil}
+use mathlib.Core.List.{List, append-nil}
 use native.Mathlib.Omega.{arith}
 use borrow.Author.Tests.{not-true, not-false}
 use Rattle.predictive.specs.Grammar.{seq, any}
@@ -17,22 +17,18 @@ use Rattle.parser.proofs.Loops.{Turning, μ, w-holds, w-again, w-less, w-done}
 use Rattle.parser.proofs.Levels.{seq-at, inside-at, again-at, opens-at}
 use Prim.Native.Nat.{ℕ, suc, _<_, _+_, _*_}
 use borrow.Author.Needs.{needs}
-use borrow.Fn.Kinds.{In}
+use borrow.Fn.Kinds.{In, PK}
 use borrow.Fn.PlainCycle.{Measures, is, falls, and}
 use Rattle.grammar.proofs.binding_items.Reads as binding-items
 use Rattle.grammar.proofs.binding_items.Kinds as binding-items-kinds
 use Rattle.grammar.proofs.+binding_items+classifier_ref+prototype_binding+prototype_binding_list+prototype_bindings.Lts-binding_items as binding-items-lts
 use Rattle.grammar.proofs.classifier_ref.Reads as classifier-ref
-use Rattle.grammar.proofs.classifier_ref.Kinds as classifier-ref-kinds
 use Rattle.grammar.proofs.+binding_items+classifier_ref+prototype_binding+prototype_binding_list+prototype_bindings.Lts-classifier_ref as classifier-ref-lts
 use Rattle.grammar.proofs.prototype_binding.Reads as prototype-binding
-use Rattle.grammar.proofs.prototype_binding.Kinds as prototype-binding-kinds
 use Rattle.grammar.proofs.+binding_items+classifier_ref+prototype_binding+prototype_binding_list+prototype_bindings.Lts-prototype_binding as prototype-binding-lts
 use Rattle.grammar.proofs.prototype_binding_list.Reads as prototype-binding-list
-use Rattle.grammar.proofs.prototype_binding_list.Kinds as prototype-binding-list-kinds
 use Rattle.grammar.proofs.+binding_items+classifier_ref+prototype_binding+prototype_binding_list+prototype_bindings.Lts-prototype_binding_list as prototype-binding-list-lts
 use Rattle.grammar.proofs.prototype_bindings.Reads as prototype-bindings
-use Rattle.grammar.proofs.prototype_bindings.Kinds as prototype-bindings-kinds
 use Rattle.grammar.proofs.+binding_items+classifier_ref+prototype_binding+prototype_binding_list+prototype_bindings.Lts-prototype_bindings as prototype-bindings-lts
 use Rattle.categories.proofs.at_ident_or_kw.Reads as at-ident-or-kw-reads
 use Rattle.categories.proofs.category.Reads as category-reads
@@ -52,52 +48,18 @@ use Rattle.grammar.proofs.+binding_items+classifier_ref+prototype_bindi
 
 -- MEASURES: the openers left, and by how much a function stands above those that it calls with as many
 
-abbrev μ-binding-items : Measures 3 binding-items-kinds.ps ℕ
-μ-binding-items κs a = a .1 .1 .1 .0 .left * 8 + 3
+abbrev ps : List (PK 3)
+ps = binding-items-kinds.ps
 
-abbrev μ-classifier-ref : Measures 3 classifier-ref-kinds.ps ℕ
-μ-classifier-ref κs a = a .1 .1 .1 .0 .left * 8 + 1
+abbrev openers-left : (rank : ℕ) → Measures 3 ps ℕ
+openers-left n κs a = a .1 .1 .1 .0 .left * 8 + n
 
-abbrev μ-prototype-binding : Measures 3 prototype-binding-kinds.ps ℕ
-μ-prototype-binding κs a = a .1 .1 .1 .0 .left * 8 + 2
+-- a function of a rank, called where its measure is t, and one that is called by it
+abbrev here : (rank : ℕ) → In 3 ps → ℕ → In 3 ps
+here n pre t = and 3 ps (is 3 ps (openers-left n) t) pre
 
-abbrev μ-prototype-binding-list : Measures 3 prototype-binding-list-kinds.ps ℕ
-μ-prototype-binding-list κs a = a .1 .1 .1 .0 .left * 8 + 4
-
-abbrev μ-prototype-bindings : Measures 3 prototype-bindings-kinds.ps ℕ
-μ-prototype-bindings κs a = a .1 .1 .1 .0 .left * 8 + 0
-
-abbrev binding-items-at : ℕ → In 3 binding-items-kinds.ps
-binding-items-at t = and 3 binding-items-kinds.ps (is 3 binding-items-kinds.ps μ-binding-items t) binding-items.Pre
-
-abbrev binding-items-below : ℕ → In 3 binding-items-kinds.ps
-binding-items-below t = and 3 binding-items-kinds.ps (falls 3 binding-items-kinds.ps _<_ μ-binding-items t) binding-items.Pre
-
-abbrev classifier-ref-at : ℕ → In 3 classifier-ref-kinds.ps
-classifier-ref-at t = and 3 classifier-ref-kinds.ps (is 3 classifier-ref-kinds.ps μ-classifier-ref t) classifier-ref.Pre
-
-abbrev classifier-ref-below : ℕ → In 3 classifier-ref-kinds.ps
-classifier-ref-below t = and 3 classifier-ref-kinds.ps (falls 3 classifier-ref-kinds.ps _<_ μ-classifier-ref t) classifier-ref.Pre
-
-abbrev prototype-binding-at : ℕ → In 3 prototype-binding-kinds.ps
-prototype-binding-at t = and 3 prototype-binding-kinds.ps (is 3 prototype-binding-kinds.ps μ-prototype-binding t) prototype-binding.Pre
-
-abbrev prototype-binding-below : ℕ → In 3 prototype-binding-kinds.ps
-prototype-binding-below t = and 3 prototype-binding-kinds.ps (falls 3 prototype-binding-kinds.ps _<_ μ-prototype-binding t) prototype-binding.Pre
-
-abbrev prototype-binding-list-at : ℕ → In 3 prototype-binding-list-kinds.ps
-prototype-binding-list-at t =
-    and 3 prototype-binding-list-kinds.ps (is 3 prototype-binding-list-kinds.ps μ-prototype-binding-list t) prototype-binding-list.Pre
-
-abbrev prototype-binding-list-below : ℕ → In 3 prototype-binding-list-kinds.ps
-prototype-binding-list-below t =
-    and 3 prototype-binding-list-kinds.ps (falls 3 prototype-binding-list-kinds.ps _<_ μ-prototype-binding-list t) prototype-binding-list.Pre
-
-abbrev prototype-bindings-at : ℕ → In 3 prototype-bindings-kinds.ps
-prototype-bindings-at t = and 3 prototype-bindings-kinds.ps (is 3 prototype-bindings-kinds.ps μ-prototype-bindings t) prototype-bindings.Pre
-
-abbrev prototype-bindings-below : ℕ → In 3 prototype-bindings-kinds.ps
-prototype-bindings-below t = and 3 prototype-bindings-kinds.ps (falls 3 prototype-bindings-kinds.ps _<_ μ-prototype-bindings t) prototype-bindings.Pre
+abbrev below : (rank : ℕ) → In 3 ps → ℕ → In 3 ps
+below n pre t = and 3 ps (falls 3 ps _<_ (openers-left n) t) pre
 
 -- THE READERS
 
@@ -112,7 +74,7 @@ abbrev binding-items-calls : ℕ → binding-items-lts.Claims
 binding-items-calls t = (
   at-ident-or-kw-reads.Asked,
   at-ident-or-kw-reads.Learnt,
-  prototype-binding-below t,
+  below 2 prototype-binding.Pre t,
   prototype-binding.Post,
   at-reads.Asked,
   at-reads.Learnt,
@@ -121,7 +83,7 @@ binding-items-calls t = (
 )
 
 binding-items-returns : (t : ℕ) →
-    binding-items-lts.Need-returns (binding-items-calls t) (binding-items-at t) binding-items.Post binding-items-Inv-loop binding-items-μ-loop
+    binding-items-lts.Need-returns (binding-items-calls t) (here 3 binding-items.Pre t) binding-items.Post binding-items-Inv-loop binding-items-μ-loop
 unfolding ones first null
 binding-items-returns t c =
     let at-at = c .before in
@@ -134,10 +96,10 @@ binding-items-returns t c =
     (seq-at suc (r-node-head named (at-prototype-binding .prototype-binding .ensures))
     (w-done (at-loop .loop .inv) (sym (at-at .at .ensures) ∙ c .if2 .left)))
 
-binding-items-done : {M : Type 1} (t : ℕ) → binding-items-lts.Closed (binding-items-calls t) (binding-items-at t) binding-items.Post M
+binding-items-done : {M : Type 1} (t : ℕ) → binding-items-lts.Closed (binding-items-calls t) (here 3 binding-items.Pre t) binding-items.Post M
 unfolding ones first null takes
 binding-items-done t =
-    binding-items-lts.spec (binding-items-calls t) (binding-items-at t) binding-items.Post binding-items-Inv-loop binding-items-μ-loop
+    binding-items-lts.spec (binding-items-calls t) (here 3 binding-items.Pre t) binding-items.Post binding-items-Inv-loop binding-items-μ-loop
     (λ c κs. search needs)
     (λ c κs.
     let at-pre = c .before .before .before .before .before .before in
@@ -199,14 +161,14 @@ classifier-ref-calls t = (
   name-or-error-reads.Learnt,
   implementation-reads.Asked,
   implementation-reads.Learnt,
-  prototype-bindings-below t,
+  below 0 prototype-bindings.Pre t,
   prototype-bindings.Post,
   complete-reads.Asked,
   complete-reads.Learnt,
 )
 
 classifier-ref-returns-2 : (t : ℕ) →
-    classifier-ref-lts.Need-returns-2 (classifier-ref-calls t) (classifier-ref-at t) classifier-ref.Post classifier-ref-Inv-loop classifier-ref-μ-loop
+    classifier-ref-lts.Need-returns-2 (classifier-ref-calls t) (here 1 classifier-ref.Pre t) classifier-ref.Post classifier-ref-Inv-loop classifier-ref-μ-loop
 unfolding ones first null
 classifier-ref-returns-2 t c =
     let at-complete = c .before .before .before in
@@ -227,10 +189,10 @@ classifier-ref-returns-2 t c =
     (seq-at (λ n. n) (at-implementation .implementation .ensures _) (at-prototype-bindings .prototype-bindings .ensures))))
     (at-complete .complete .ensures))
 
-classifier-ref-done : {M : Type 1} (t : ℕ) → classifier-ref-lts.Closed (classifier-ref-calls t) (classifier-ref-at t) classifier-ref.Post M
+classifier-ref-done : {M : Type 1} (t : ℕ) → classifier-ref-lts.Closed (classifier-ref-calls t) (here 1 classifier-ref.Pre t) classifier-ref.Post M
 unfolding ones first null takes
 classifier-ref-done t =
-    classifier-ref-lts.spec (classifier-ref-calls t) (classifier-ref-at t) classifier-ref.Post classifier-ref-Inv-loop classifier-ref-μ-loop
+    classifier-ref-lts.spec (classifier-ref-calls t) (here 1 classifier-ref.Pre t) classifier-ref.Post classifier-ref-Inv-loop classifier-ref-μ-loop
     (λ c κs. search needs)
     (λ c.
     let at-at-ident-or-kw = c .before in
@@ -284,13 +246,13 @@ prototype-binding-calls t = (
   direction-reads.Learnt,
   category-reads.Asked,
   category-reads.Learnt,
-  classifier-ref-below t,
+  below 1 classifier-ref.Pre t,
   classifier-ref.Post,
   complete-reads.Asked,
   complete-reads.Learnt,
 )
 
-prototype-binding-returns : (t : ℕ) → prototype-binding-lts.Need-returns (prototype-binding-calls t) (prototype-binding-at t) prototype-binding.Post
+prototype-binding-returns : (t : ℕ) → prototype-binding-lts.Need-returns (prototype-binding-calls t) (here 2 prototype-binding.Pre t) prototype-binding.Post
 unfolding ones first null
 prototype-binding-returns t c =
     let at-complete = c .before .before .before in
@@ -307,9 +269,9 @@ prototype-binding-returns t c =
     (seq-at suc (at-category .category .ensures _) (r-opt-rule G.Classifier (append-nil (ones G.names)) (at-classifier-ref .classifier-ref .ensures))))))
     (at-complete .complete .ensures)
 
-prototype-binding-done : {M : Type 1} (t : ℕ) → prototype-binding-lts.Closed (prototype-binding-calls t) (prototype-binding-at t) prototype-binding.Post M
+prototype-binding-done : {M : Type 1} (t : ℕ) → prototype-binding-lts.Closed (prototype-binding-calls t) (here 2 prototype-binding.Pre t) prototype-binding.Post M
 prototype-binding-done t =
-    prototype-binding-lts.spec (prototype-binding-calls t) (prototype-binding-at t) prototype-binding.Post
+    prototype-binding-lts.spec (prototype-binding-calls t) (here 2 prototype-binding.Pre t) prototype-binding.Post
     (λ c κs. search needs) (λ c κs. search needs) (λ c κs. search needs) (λ c κs. search needs) (λ c κs. search needs)
     (λ c κs.
     let at-category = c .before .before .before in
@@ -337,7 +299,7 @@ prototype-binding-list-calls t = (
   start-reads.Learnt,
   bump-reads.Asked,
   bump-reads.Learnt,
-  binding-items-below t,
+  below 3 binding-items.Pre t,
   binding-items.Post,
   expect-reads.Asked,
   expect-reads.Learnt,
@@ -346,7 +308,7 @@ prototype-binding-list-calls t = (
 )
 
 prototype-binding-list-returns : (t : ℕ) →
-    prototype-binding-list-lts.Need-returns (prototype-binding-list-calls t) (prototype-binding-list-at t) prototype-binding-list.Post
+    prototype-binding-list-lts.Need-returns (prototype-binding-list-calls t) (here 4 prototype-binding-list.Pre t) prototype-binding-list.Post
 prototype-binding-list-returns t c =
     let at-complete = c .before .before .before in
     let at-expect = at-complete .before .before .before .before in
@@ -358,9 +320,9 @@ prototype-binding-list-returns t c =
     (at-complete .complete .ensures)
 
 prototype-binding-list-done : {M : Type 1} (t : ℕ) →
-    prototype-binding-list-lts.Closed (prototype-binding-list-calls t) (prototype-binding-list-at t) prototype-binding-list.Post M
+    prototype-binding-list-lts.Closed (prototype-binding-list-calls t) (here 4 prototype-binding-list.Pre t) prototype-binding-list.Post M
 prototype-binding-list-done t =
-    prototype-binding-list-lts.spec (prototype-binding-list-calls t) (prototype-binding-list-at t) prototype-binding-list.Post
+    prototype-binding-list-lts.spec (prototype-binding-list-calls t) (here 4 prototype-binding-list.Pre t) prototype-binding-list.Post
     (λ c κs. search needs) (λ c κs. search needs)
     (λ c κs.
     let at-bump = c .before .before .before in
@@ -384,15 +346,15 @@ prototype-bindings-calls t = (
   too-deep-reads.Learnt,
   with-left-reads.Asked,
   with-left-reads.Learnt,
-  prototype-binding-list-below t,
+  below 4 prototype-binding-list.Pre t,
   prototype-binding-list.Post,
 )
 
 prototype-bindings-done : {M : Type 1} (t : ℕ) →
-    prototype-bindings-lts.Closed (prototype-bindings-calls t) (prototype-bindings-at t) prototype-bindings.Post M
+    prototype-bindings-lts.Closed (prototype-bindings-calls t) (here 0 prototype-bindings.Pre t) prototype-bindings.Post M
 unfolding ones first null
 prototype-bindings-done t =
-    prototype-bindings-lts.spec (prototype-bindings-calls t) (prototype-bindings-at t) prototype-bindings.Post
+    prototype-bindings-lts.spec (prototype-bindings-calls t) (here 0 prototype-bindings.Pre t) prototype-bindings.Post
     (λ c κs. search needs) (λ c κs. search needs)
     (λ c.
     let at-if2 = c .before in
@@ -424,5 +386,5 @@ prototype-bindings-done t =
 
 pub +binding-items+classifier-ref+prototype-binding+prototype-binding-list+prototype-bindings-spec : {M : Type 1} → statement M
 +binding-items+classifier-ref+prototype-binding+prototype-binding-list+prototype-bindings-spec =
-    close μ-binding-items μ-classifier-ref μ-prototype-binding μ-prototype-binding-list μ-prototype-bindings
+    close (openers-left 3) (openers-left 1) (openers-left 2) (openers-left 4) (openers-left 0)
     binding-items-done classifier-ref-done prototype-binding-done prototype-binding-list-done prototype-bindings-done

@@ -29,7 +29,8 @@ loop-less c =
     let at-bump2 = at-containment-path2 .before .before .before .before in
     let at-if2 = at-bump2 .before .before in
     let at-at2 = at-if2 .before in
-    let d : ℕ = 0 in w-less {P = (seq (G.token COMMA) G.path)} refl (sym (at-at2 .at2 .ensures) ∙ (at-if2 .if2 .taken)) (r-seq ((at-bump2 .bump2 .ensures) d) ((at-containment-path2 .containment-path2 .ensures) d))
+    let d : ℕ = 0 in w-less {P = seq (G.token COMMA) G.path} refl (sym (at-at2 .at2 .ensures) ∙ at-if2 .if2 .taken)
+    (r-seq (at-bump2 .bump2 .ensures d) (at-containment-path2 .containment-path2 .ensures d))
 
 loop-again : tie.Need-loop-again Inv-loop μ-loop
 unfolding ones first null takes
@@ -39,7 +40,8 @@ loop-again c =
     let at-if2 = at-bump2 .before .before in
     let at-at2 = at-if2 .before in
     let at-loop = at-at2 .before in
-    λ d. w-again refl ((at-loop .loop .inv) d) (sym (at-at2 .at2 .ensures) ∙ (at-if2 .if2 .taken)) (r-seq ((at-bump2 .bump2 .ensures) d) ((at-containment-path2 .containment-path2 .ensures) d))
+    λ d. w-again refl (at-loop .loop .inv d) (sym (at-at2 .at2 .ensures) ∙ at-if2 .if2 .taken)
+    (r-seq (at-bump2 .bump2 .ensures d) (at-containment-path2 .containment-path2 .ensures d))
 
 returns : tie.Need-returns Inv-loop μ-loop
 unfolding ones first null
@@ -54,13 +56,22 @@ returns c =
     let at-start = at-bump .before .before .before .before in
     let at-if1 = at-start .before .before in
     let at-at = at-if1 .before in
-    λ d. r-opt-yes (sym (at-at .at .ensures) ∙ (at-if1 .if1 .taken)) (r-inside (at-start .start .ensures) (r-seq ((at-bump .bump .ensures) d) (r-seq ((at-expect .expect .ensures) d) (r-seq ((at-containment-path .containment-path .ensures) d) (w-done ((at-loop .loop .inv) d) (sym (at-at2 .at2 .ensures) ∙ (at-if2 .if2 .left)))))) (at-complete .complete .ensures))
+    λ d. r-opt-yes (sym (at-at .at .ensures) ∙ at-if1 .if1 .taken)
+    (r-inside (at-start .start .ensures)
+    (r-seq (at-bump .bump .ensures d)
+    (r-seq (at-expect .expect .ensures d)
+    (r-seq (at-containment-path .containment-path .ensures d) (w-done (at-loop .loop .inv d) (sym (at-at2 .at2 .ensures) ∙ at-if2 .if2 .left)))))
+    (at-complete .complete .ensures))
 
 returns-2 : tie.Need-returns-2 Inv-loop μ-loop
 unfolding ones first null
 returns-2 c =
     let at-at = c .before in
-    λ d. r-opt-no (sym (at-at .at .ensures) ∙ (c .if1 .left))
+    λ d. r-opt-no (sym (at-at .at .ensures) ∙ c .if1 .left)
 
 pub applies-to-spec : {M : Type 1} → statement M
-applies-to-spec = tie.close (tie.spec Inv-loop μ-loop (λ c κs. search needs) (λ c κs. search needs) (λ c κs. search needs) (λ c κs. search needs) (λ c κs. search needs) loop-holds (λ c κs. search needs) (λ c κs. search needs) (λ c κs. search needs) loop-less loop-again (λ c κs. search needs) (λ c. read-long (returns c 0)) returns returns-2)
+applies-to-spec =
+    tie.close
+    (tie.spec Inv-loop μ-loop (λ c κs. search needs) (λ c κs. search needs) (λ c κs. search needs) (λ c κs. search needs) (λ c κs. search needs)
+    loop-holds (λ c κs. search needs) (λ c κs. search needs) (λ c κs. search needs) loop-less loop-again (λ c κs. search needs)
+    (λ c. read-long (returns c 0)) returns returns-2)

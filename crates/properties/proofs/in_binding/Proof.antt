@@ -20,13 +20,20 @@ returns c =
     let at-start = at-bump .before .before .before .before in
     let at-if1 = at-start .before .before in
     let at-at-pair = at-if1 .before in
-    r-opt-yes (sym (at-at-pair .at-pair .ensures) ∙ (at-if1 .if1 .taken)) (inside-at same (at-start .start .ensures) (seq-at same (r-two ((at-bump .bump .ensures) _) ((at-bump2 .bump2 .ensures) _)) (seq-at same ((at-expect .expect .ensures) _) (seq-at same (at-classifier-ref .classifier-ref .ensures) ((at-expect2 .expect2 .ensures) _)))) (at-complete .complete .ensures))
+    r-opt-yes (sym (at-at-pair .at-pair .ensures) ∙ at-if1 .if1 .taken)
+    (inside-at same (at-start .start .ensures)
+    (seq-at same (r-two (at-bump .bump .ensures _) (at-bump2 .bump2 .ensures _))
+    (seq-at same (at-expect .expect .ensures _) (seq-at same (at-classifier-ref .classifier-ref .ensures) (at-expect2 .expect2 .ensures _))))
+    (at-complete .complete .ensures))
 
 returns-2 : tie.Need-returns-2
 unfolding ones first null
 returns-2 c =
     let at-at-pair = c .before in
-    r-opt-no (sym (at-at-pair .at-pair .ensures) ∙ (c .if1 .left))
+    r-opt-no (sym (at-at-pair .at-pair .ensures) ∙ c .if1 .left)
 
 pub in-binding-spec : {M : Type 1} → statement M
-in-binding-spec = tie.close (tie.spec (λ c κs. search needs) (λ c κs. search needs) (λ c κs. search needs) (λ c κs. search needs) (λ c κs. search needs) (λ c κs. search needs) (λ c κs. search needs) (λ c κs. search needs) (λ c. read-long (returns c)) returns returns-2)
+in-binding-spec =
+    tie.close
+    (tie.spec (λ c κs. search needs) (λ c κs. search needs) (λ c κs. search needs) (λ c κs. search needs) (λ c κs. search needs)
+    (λ c κs. search needs) (λ c κs. search needs) (λ c κs. search needs) (λ c. read-long (returns c)) returns returns-2)

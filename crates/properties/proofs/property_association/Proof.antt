@@ -29,7 +29,8 @@ loop-less c =
     let at-bump = at-property-value2 .before .before .before .before in
     let at-if1 = at-bump .before .before in
     let at-at = at-if1 .before in
-    w-less {P = (seq (G.token COMMA) G.value)} refl (sym (at-at .at .ensures) ∙ (at-if1 .if1 .taken)) (seq-at same ((at-bump .bump .ensures) _) (at-property-value2 .property-value2 .ensures))
+    w-less {P = seq (G.token COMMA) G.value} refl (sym (at-at .at .ensures) ∙ at-if1 .if1 .taken)
+    (seq-at same (at-bump .bump .ensures _) (at-property-value2 .property-value2 .ensures))
 
 loop-again : tie.Need-loop-again Inv-loop μ-loop
 unfolding ones first null takes
@@ -39,7 +40,8 @@ loop-again c =
     let at-if1 = at-bump .before .before in
     let at-at = at-if1 .before in
     let at-loop = at-at .before in
-    again-at same refl (at-loop .loop .inv) (sym (at-at .at .ensures) ∙ (at-if1 .if1 .taken)) (seq-at same ((at-bump .bump .ensures) _) (at-property-value2 .property-value2 .ensures))
+    again-at same refl (at-loop .loop .inv) (sym (at-at .at .ensures) ∙ at-if1 .if1 .taken)
+    (seq-at same (at-bump .bump .ensures _) (at-property-value2 .property-value2 .ensures))
 
 returns : tie.Need-returns Inv-loop μ-loop
 unfolding ones first null
@@ -56,7 +58,18 @@ returns c =
     let at-arrow = at-eat .before .before .before .before in
     let at-property-ref = at-arrow .before .before .before .before in
     let at-start = at-property-ref .before .before .before .before in
-    inside-at same (at-start .start .ensures) (seq-at same ((at-property-ref .property-ref .ensures) _) (seq-at same ((at-arrow .arrow .ensures) _) (seq-at same ((at-eat .eat .ensures) _ free) (seq-at same (seq-at same (at-property-value .property-value .ensures) (w-done (at-loop .loop .inv) (sym (at-at .at .ensures) ∙ (at-if1 .if1 .left)))) (seq-at same ((at-applies-to .applies-to .ensures) _) (seq-at same (at-in-binding .in-binding .ensures) ((at-expect .expect .ensures) _))))))) (at-complete .complete .ensures)
+    inside-at same (at-start .start .ensures)
+    (seq-at same (at-property-ref .property-ref .ensures _)
+    (seq-at same (at-arrow .arrow .ensures _)
+    (seq-at same (at-eat .eat .ensures _ free)
+    (seq-at same
+    (seq-at same (at-property-value .property-value .ensures) (w-done (at-loop .loop .inv) (sym (at-at .at .ensures) ∙ at-if1 .if1 .left)))
+    (seq-at same (at-applies-to .applies-to .ensures _) (seq-at same (at-in-binding .in-binding .ensures) (at-expect .expect .ensures _)))))))
+    (at-complete .complete .ensures)
 
 pub property-association-spec : {M : Type 1} → statement M
-property-association-spec = tie.close (tie.spec Inv-loop μ-loop (λ c κs. search needs) (λ c κs. search needs) (λ c κs. search needs) (λ c κs. search needs) (λ c κs. search needs) loop-holds (λ c κs. search needs) (λ c κs. search needs) (λ c κs. search needs) loop-less loop-again (λ c κs. search needs) (λ c κs. search needs) (λ c κs. search needs) (λ c κs. search needs) (λ c. read-long (returns c)) returns)
+property-association-spec =
+    tie.close
+    (tie.spec Inv-loop μ-loop (λ c κs. search needs) (λ c κs. search needs) (λ c κs. search needs) (λ c κs. search needs) (λ c κs. search needs)
+    loop-holds (λ c κs. search needs) (λ c κs. search needs) (λ c κs. search needs) loop-less loop-again (λ c κs. search needs) (λ c κs. search needs)
+    (λ c κs. search needs) (λ c κs. search needs) (λ c. read-long (returns c)) returns)

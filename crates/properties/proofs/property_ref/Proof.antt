@@ -10,7 +10,10 @@ returns c =
     let at-name-in-set = at-complete .before .before .before .before in
     let at-property-name = at-name-in-set .before .before .before .before in
     let at-start = at-property-name .before .before .before .before in
-    λ d. r-inside (at-start .start .ensures) (r-seq ((at-property-name .property-name .ensures) d) ((at-name-in-set .name-in-set .ensures) d)) (at-complete .complete .ensures)
+    λ d. r-inside (at-start .start .ensures) (r-seq (at-property-name .property-name .ensures d) (at-name-in-set .name-in-set .ensures d))
+    (at-complete .complete .ensures)
 
 pub property-ref-spec : {M : Type 1} → statement M
-property-ref-spec = tie.close (tie.spec (λ c κs. search needs) (λ c κs. search needs) (λ c κs. search needs) (λ c κs. search needs) (λ c. read-long (returns c 0)) returns)
+property-ref-spec =
+    tie.close
+    (tie.spec (λ c κs. search needs) (λ c κs. search needs) (λ c κs. search needs) (λ c κs. search needs) (λ c. read-long (returns c 0)) returns)

@@ -28,7 +28,8 @@ loop-less c =
     let at-property-association = c .before .before in
     let at-if2 = at-property-association .before .before in
     let at-at-name = at-if2 .before in
-    w-less {P = G.read-association} refl (sym ((at-at-name .at-name .ensures) 3) ∙ (at-if2 .if2 .taken)) (at-property-association .property-association .ensures)
+    w-less {P = G.read-association} refl (sym (at-at-name .at-name .ensures 3) ∙ at-if2 .if2 .taken)
+    (at-property-association .property-association .ensures)
 
 loop-again : tie.Need-loop-again Inv-loop μ-loop
 unfolding ones first null takes names keywords twos _and_
@@ -37,7 +38,8 @@ loop-again c =
     let at-if2 = at-property-association .before .before in
     let at-at-name = at-if2 .before in
     let at-loop = at-at-name .before in
-    again-at same refl (at-loop .loop .inv) (sym ((at-at-name .at-name .ensures) 3) ∙ (at-if2 .if2 .taken)) (at-property-association .property-association .ensures)
+    again-at same refl (at-loop .loop .inv) (sym (at-at-name .at-name .ensures 3) ∙ at-if2 .if2 .taken)
+    (at-property-association .property-association .ensures)
 
 returns : tie.Need-returns Inv-loop μ-loop
 unfolding ones first null
@@ -49,7 +51,10 @@ returns c =
     let at-at = at-if1 .before in
     let at-bump = at-at .before .before .before in
     let at-start = at-bump .before .before .before .before in
-    inside-at same (at-start .start .ensures) (seq-at same ((at-bump .bump .ensures) _) (r-left (sym (at-at .at .ensures) ∙ (at-if1 .if1 .taken)) (r-seq ((at-bump2 .bump2 .ensures) _) ((at-expect .expect .ensures) _)))) (at-complete .complete .ensures)
+    inside-at same (at-start .start .ensures)
+    (seq-at same (at-bump .bump .ensures _)
+    (r-left (sym (at-at .at .ensures) ∙ at-if1 .if1 .taken) (r-seq (at-bump2 .bump2 .ensures _) (at-expect .expect .ensures _))))
+    (at-complete .complete .ensures)
 
 returns-2 : tie.Need-returns-2 Inv-loop μ-loop
 unfolding ones first null names keywords twos
@@ -62,7 +67,14 @@ returns-2 c =
     let at-at = at-if1 .before in
     let at-bump = at-at .before .before .before in
     let at-start = at-bump .before .before .before .before in
-    inside-at same (at-start .start .ensures) (seq-at same ((at-bump .bump .ensures) _) (r-right (sym (at-at .at .ensures) ∙ (at-if1 .if1 .left)) (w-done (at-loop .loop .inv) (sym ((at-at-name .at-name .ensures) 3) ∙ (at-if2 .if2 .left))))) (at-complete2 .complete2 .ensures)
+    inside-at same (at-start .start .ensures)
+    (seq-at same (at-bump .bump .ensures _)
+    (r-right (sym (at-at .at .ensures) ∙ at-if1 .if1 .left) (w-done (at-loop .loop .inv) (sym (at-at-name .at-name .ensures 3) ∙ at-if2 .if2 .left))))
+    (at-complete2 .complete2 .ensures)
 
 pub property-section-spec : {M : Type 1} → statement M
-property-section-spec = tie.close (tie.spec Inv-loop μ-loop (λ c κs. search needs) (λ c κs. search needs) (λ c κs. search needs) (λ c κs. search needs) (λ c κs. search needs) (λ c κs. search needs) (λ c. read-long (returns c)) returns loop-holds (λ c κs. search needs) (λ c κs. search needs) loop-less loop-again (λ c κs. search needs) (λ c. read-long (returns-2 c)) returns-2)
+property-section-spec =
+    tie.close
+    (tie.spec Inv-loop μ-loop (λ c κs. search needs) (λ c κs. search needs) (λ c κs. search needs) (λ c κs. search needs) (λ c κs. search needs)
+    (λ c κs. search needs) (λ c. read-long (returns c)) returns loop-holds (λ c κs. search needs) (λ c κs. search needs) loop-less loop-again
+    (λ c κs. search needs) (λ c. read-long (returns-2 c)) returns-2)

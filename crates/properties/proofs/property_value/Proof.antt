@@ -16,14 +16,19 @@ returns c =
     let at-if1 = at-start .before .before in
     let at-at-pair = at-if1 .before in
     let at-property-expression = at-at-pair .before .before .before in
-    seq-at same (at-property-expression .property-expression .ensures) (r-opt-yes (sym (at-at-pair .at-pair .ensures) ∙ (at-if1 .if1 .taken)) (r-inside (at-start .start .ensures) ((at-in-modes .in-modes .ensures) _) (at-complete .complete .ensures)))
+    seq-at same (at-property-expression .property-expression .ensures)
+    (r-opt-yes (sym (at-at-pair .at-pair .ensures) ∙ at-if1 .if1 .taken)
+    (r-inside (at-start .start .ensures) (at-in-modes .in-modes .ensures _) (at-complete .complete .ensures)))
 
 returns-2 : tie.Need-returns-2
 unfolding ones first null
 returns-2 c =
     let at-at-pair = c .before in
     let at-property-expression = at-at-pair .before .before .before in
-    seq-at same (at-property-expression .property-expression .ensures) (r-opt-no (sym (at-at-pair .at-pair .ensures) ∙ (c .if1 .left)))
+    seq-at same (at-property-expression .property-expression .ensures) (r-opt-no (sym (at-at-pair .at-pair .ensures) ∙ c .if1 .left))
 
 pub property-value-spec : {M : Type 1} → statement M
-property-value-spec = tie.close (tie.spec (λ c κs. search needs) (λ c κs. search needs) (λ c κs. search needs) (λ c κs. search needs) (λ c κs. search needs) (λ c. read-long (returns c)) returns (λ c. read-long (returns-2 c)) returns-2)
+property-value-spec =
+    tie.close
+    (tie.spec (λ c κs. search needs) (λ c κs. search needs) (λ c κs. search needs) (λ c κs. search needs) (λ c κs. search needs)
+    (λ c. read-long (returns c)) returns (λ c. read-long (returns-2 c)) returns-2)

@@ -28,7 +28,8 @@ loop-less c =
     let at-bump = at-index .before .before .before .before in
     let at-if1 = at-bump .before .before in
     let at-at = at-if1 .before in
-    let d : ℕ = 0 in w-less {P = G.subscript} refl (sym (at-at .at .ensures) ∙ (at-if1 .if1 .taken)) (r-seq ((at-bump .bump .ensures) d) (r-seq ((at-index .index .ensures) d) ((at-expect .expect .ensures) d)))
+    let d : ℕ = 0 in w-less {P = G.subscript} refl (sym (at-at .at .ensures) ∙ at-if1 .if1 .taken)
+    (r-seq (at-bump .bump .ensures d) (r-seq (at-index .index .ensures d) (at-expect .expect .ensures d)))
 
 loop-again : tie.Need-loop-again Inv-loop μ-loop
 unfolding ones first null takes
@@ -39,14 +40,18 @@ loop-again c =
     let at-if1 = at-bump .before .before in
     let at-at = at-if1 .before in
     let at-loop = at-at .before in
-    λ d. w-again refl ((at-loop .loop .inv) d) (sym (at-at .at .ensures) ∙ (at-if1 .if1 .taken)) (r-seq ((at-bump .bump .ensures) d) (r-seq ((at-index .index .ensures) d) ((at-expect .expect .ensures) d)))
+    λ d. w-again refl (at-loop .loop .inv d) (sym (at-at .at .ensures) ∙ at-if1 .if1 .taken)
+    (r-seq (at-bump .bump .ensures d) (r-seq (at-index .index .ensures d) (at-expect .expect .ensures d)))
 
 returns : tie.Need-returns Inv-loop μ-loop
 unfolding ones first null
 returns c =
     let at-at = c .before in
     let at-loop = at-at .before in
-    λ d. w-done ((at-loop .loop .inv) d) (sym (at-at .at .ensures) ∙ (c .if1 .left))
+    λ d. w-done (at-loop .loop .inv d) (sym (at-at .at .ensures) ∙ c .if1 .left)
 
 pub array-subscripts-spec : {M : Type 1} → statement M
-array-subscripts-spec = tie.close (tie.spec Inv-loop μ-loop loop-holds (λ c κs. search needs) (λ c κs. search needs) (λ c κs. search needs) (λ c κs. search needs) loop-less loop-again (λ c. read-long (returns c 0)) returns)
+array-subscripts-spec =
+    tie.close
+    (tie.spec Inv-loop μ-loop loop-holds (λ c κs. search needs) (λ c κs. search needs) (λ c κs. search needs) (λ c κs. search needs) loop-less
+    loop-again (λ c. read-long (returns c 0)) returns)

@@ -13,7 +13,12 @@ returns c =
     let at-expect = at-eat .before .before .before .before in
     let at-bump = at-expect .before .before .before .before in
     let at-start = at-bump .before .before .before .before in
-    λ d. n-inside (at-start .start .ensures) (r-seq ((at-bump .bump .ensures) d) (r-seq ((at-expect .expect .ensures) d) (r-seq ((at-eat .eat .ensures) d free) ((at-expect2 .expect2 .ensures) d)))) (at-complete .complete .ensures)
+    λ d. n-inside (at-start .start .ensures)
+    (r-seq (at-bump .bump .ensures d) (r-seq (at-expect .expect .ensures d) (r-seq (at-eat .eat .ensures d free) (at-expect2 .expect2 .ensures d))))
+    (at-complete .complete .ensures)
 
 pub computed-value-spec : {M : Type 1} → statement M
-computed-value-spec = tie.close (tie.spec (λ c κs. search needs) (λ c κs. search needs) (λ c κs. search needs) (λ c κs. search needs) (λ c κs. search needs) (λ c κs. search needs) (λ c. read-long (returns c 0 .reads)) returns)
+computed-value-spec =
+    tie.close
+    (tie.spec (λ c κs. search needs) (λ c κs. search needs) (λ c κs. search needs) (λ c κs. search needs) (λ c κs. search needs)
+    (λ c κs. search needs) (λ c. read-long (returns c 0 .reads)) returns)

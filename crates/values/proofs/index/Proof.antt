@@ -14,7 +14,7 @@ returns c =
     let at-bump = at-index-end .before .before .before .before in
     let at-if1 = at-bump .before .before in
     let at-at = at-if1 .before in
-    λ d. r-opt-left (sym (at-at .at .ensures) ∙ (at-if1 .if1 .taken)) (r-seq ((at-bump .bump .ensures) d) ((at-index-end .index-end .ensures) d))
+    λ d. r-opt-left (sym (at-at .at .ensures) ∙ at-if1 .if1 .taken) (r-seq (at-bump .bump .ensures d) (at-index-end .index-end .ensures d))
 
 returns-2 : tie.Need-returns-2
 unfolding ones first null
@@ -22,7 +22,10 @@ returns-2 c =
     let at-eat = c .before .before in
     let at-if1 = at-eat .before .before in
     let at-at = at-if1 .before in
-    λ d. r-opt-right (sym (at-at .at .ensures) ∙ (at-if1 .if1 .left)) ((at-eat .eat .ensures) d free)
+    λ d. r-opt-right (sym (at-at .at .ensures) ∙ at-if1 .if1 .left) (at-eat .eat .ensures d free)
 
 pub index-spec : {M : Type 1} → statement M
-index-spec = tie.close (tie.spec (λ c κs. search needs) (λ c κs. search needs) (λ c κs. search needs) (λ c. read-long (returns c 0)) returns (λ c κs. search needs) (λ c. read-long (returns-2 c 0)) returns-2)
+index-spec =
+    tie.close
+    (tie.spec (λ c κs. search needs) (λ c κs. search needs) (λ c κs. search needs) (λ c. read-long (returns c 0)) returns (λ c κs. search needs)
+    (λ c. read-long (returns-2 c 0)) returns-2)

@@ -13,13 +13,14 @@ returns c =
     let at-bump-any = c .before .before in
     let at-if1 = at-bump-any .before .before in
     let at-at-ident-or-kw = at-if1 .before in
-    λ d. r-opt-yes (sym (at-at-ident-or-kw .at-ident-or-kw .ensures) ∙ (at-if1 .if1 .taken)) (r-tok-yes (sym (at-at-ident-or-kw .at-ident-or-kw .ensures) ∙ (at-if1 .if1 .taken)) ((at-bump-any .bump-any .ensures) d))
+    λ d. r-opt-yes (sym (at-at-ident-or-kw .at-ident-or-kw .ensures) ∙ at-if1 .if1 .taken)
+    (r-tok-yes (sym (at-at-ident-or-kw .at-ident-or-kw .ensures) ∙ at-if1 .if1 .taken) (at-bump-any .bump-any .ensures d))
 
 returns-2 : tie.Need-returns-2
 unfolding first
 returns-2 c =
     let at-at-ident-or-kw = c .before in
-    λ d. r-opt-no (sym (at-at-ident-or-kw .at-ident-or-kw .ensures) ∙ (c .if1 .left))
+    λ d. r-opt-no (sym (at-at-ident-or-kw .at-ident-or-kw .ensures) ∙ c .if1 .left)
 
 pub name-after-spec : {M : Type 1} → statement M
 name-after-spec = tie.close (tie.spec (λ c κs. search needs) (λ c κs. search needs) (λ c. read-long (returns c 0)) returns returns-2)

@@ -27,7 +27,8 @@ loop-less c =
     let at-bump2 = at-name-after .before .before .before .before in
     let at-if1 = at-bump2 .before .before in
     let at-at = at-if1 .before in
-    let d : ℕ = 0 in w-less {P = G.qualified} refl (sym (at-at .at .ensures) ∙ (at-if1 .if1 .taken)) (r-seq ((at-bump2 .bump2 .ensures) d) ((at-name-after .name-after .ensures) d))
+    let d : ℕ = 0 in w-less {P = G.qualified} refl (sym (at-at .at .ensures) ∙ at-if1 .if1 .taken)
+    (r-seq (at-bump2 .bump2 .ensures d) (at-name-after .name-after .ensures d))
 
 loop-again : tie.Need-loop-again Inv-loop μ-loop
 unfolding ones first null takes
@@ -37,7 +38,8 @@ loop-again c =
     let at-if1 = at-bump2 .before .before in
     let at-at = at-if1 .before in
     let at-loop = at-at .before in
-    λ d. w-again refl ((at-loop .loop .inv) d) (sym (at-at .at .ensures) ∙ (at-if1 .if1 .taken)) (r-seq ((at-bump2 .bump2 .ensures) d) ((at-name-after .name-after .ensures) d))
+    λ d. w-again refl (at-loop .loop .inv d) (sym (at-at .at .ensures) ∙ at-if1 .if1 .taken)
+    (r-seq (at-bump2 .bump2 .ensures d) (at-name-after .name-after .ensures d))
 
 returns : tie.Need-returns Inv-loop μ-loop
 unfolding ones first null
@@ -48,7 +50,11 @@ returns c =
     let at-loop = at-at .before in
     let at-bump = at-loop .before .before .before in
     let at-start = at-bump .before .before .before .before in
-    λ d. n-inside (at-start .start .ensures) (r-seq ((at-bump .bump .ensures) d) (w-done ((at-loop .loop .inv) d) (sym (at-at .at .ensures) ∙ (at-if1 .if1 .left)))) (at-complete .complete .ensures)
+    λ d. n-inside (at-start .start .ensures)
+    (r-seq (at-bump .bump .ensures d) (w-done (at-loop .loop .inv d) (sym (at-at .at .ensures) ∙ at-if1 .if1 .left))) (at-complete .complete .ensures)
 
 pub named-value-spec : {M : Type 1} → statement M
-named-value-spec = tie.close (tie.spec Inv-loop μ-loop (λ c κs. search needs) (λ c κs. search needs) loop-holds (λ c κs. search needs) (λ c κs. search needs) (λ c κs. search needs) loop-less loop-again (λ c κs. search needs) (λ c. read-long (returns c 0 .reads)) returns)
+named-value-spec =
+    tie.close
+    (tie.spec Inv-loop μ-loop (λ c κs. search needs) (λ c κs. search needs) loop-holds (λ c κs. search needs) (λ c κs. search needs)
+    (λ c κs. search needs) loop-less loop-again (λ c κs. search needs) (λ c. read-long (returns c 0 .reads)) returns)

@@ -11,7 +11,10 @@ returns c =
     let at-eat = at-complete .before .before .before .before in
     let at-bump = at-eat .before .before .before .before in
     let at-start = at-bump .before .before .before .before in
-    λ d. n-inside (at-start .start .ensures) (r-seq ((at-bump .bump .ensures) d) ((at-eat .eat .ensures) d free)) (at-complete .complete .ensures)
+    λ d. n-inside (at-start .start .ensures) (r-seq (at-bump .bump .ensures d) (at-eat .eat .ensures d free)) (at-complete .complete .ensures)
 
 pub real-value-spec : {M : Type 1} → statement M
-real-value-spec = tie.close (tie.spec (λ c κs. search needs) (λ c κs. search needs) (λ c κs. search needs) (λ c κs. search needs) (λ c. read-long (returns c 0 .reads)) returns)
+real-value-spec =
+    tie.close
+    (tie.spec (λ c κs. search needs) (λ c κs. search needs) (λ c κs. search needs) (λ c κs. search needs) (λ c. read-long (returns c 0 .reads))
+    returns)

@@ -12,7 +12,13 @@ returns c =
     let at-expect = at-containment-path .before .before .before .before in
     let at-bump = at-expect .before .before .before .before in
     let at-start = at-bump .before .before .before .before in
-    λ d. n-inside (at-start .start .ensures) (r-seq ((at-bump .bump .ensures) d) (r-seq ((at-expect .expect .ensures) d) (r-seq ((at-containment-path .containment-path .ensures) d) ((at-expect2 .expect2 .ensures) d)))) (at-complete .complete .ensures)
+    λ d. n-inside (at-start .start .ensures)
+    (r-seq (at-bump .bump .ensures d)
+    (r-seq (at-expect .expect .ensures d) (r-seq (at-containment-path .containment-path .ensures d) (at-expect2 .expect2 .ensures d))))
+    (at-complete .complete .ensures)
 
 pub reference-value-spec : {M : Type 1} → statement M
-reference-value-spec = tie.close (tie.spec (λ c κs. search needs) (λ c κs. search needs) (λ c κs. search needs) (λ c κs. search needs) (λ c κs. search needs) (λ c κs. search needs) (λ c. read-long (returns c 0 .reads)) returns)
+reference-value-spec =
+    tie.close
+    (tie.spec (λ c κs. search needs) (λ c κs. search needs) (λ c κs. search needs) (λ c κs. search needs) (λ c κs. search needs)
+    (λ c κs. search needs) (λ c. read-long (returns c 0 .reads)) returns)

@@ -27,7 +27,8 @@ loop-less c =
     let at-bump2 = at-segment .before .before .before .before in
     let at-if2 = at-bump2 .before .before in
     let at-at2 = at-if2 .before in
-    let d : ℕ = 0 in w-less {P = G.next-segment} refl (sym (at-at2 .at2 .ensures) ∙ (at-if2 .if2 .taken)) (r-seq ((at-bump2 .bump2 .ensures) d) ((at-segment .segment .ensures) d))
+    let d : ℕ = 0 in w-less {P = G.next-segment} refl (sym (at-at2 .at2 .ensures) ∙ at-if2 .if2 .taken)
+    (r-seq (at-bump2 .bump2 .ensures d) (at-segment .segment .ensures d))
 
 loop-again : tie.Need-loop-again Inv-loop μ-loop
 unfolding ones first null takes
@@ -37,7 +38,8 @@ loop-again c =
     let at-if2 = at-bump2 .before .before in
     let at-at2 = at-if2 .before in
     let at-loop = at-at2 .before in
-    λ d. w-again refl ((at-loop .loop .inv) d) (sym (at-at2 .at2 .ensures) ∙ (at-if2 .if2 .taken)) (r-seq ((at-bump2 .bump2 .ensures) d) ((at-segment .segment .ensures) d))
+    λ d. w-again refl (at-loop .loop .inv d) (sym (at-at2 .at2 .ensures) ∙ at-if2 .if2 .taken)
+    (r-seq (at-bump2 .bump2 .ensures d) (at-segment .segment .ensures d))
 
 returns : tie.Need-returns Inv-loop μ-loop
 unfolding ones first null
@@ -48,13 +50,18 @@ returns c =
     let at-bump = at-array-subscripts .before .before .before .before in
     let at-if1 = at-bump .before .before in
     let at-at = at-if1 .before in
-    λ d. r-opt-yes (sym (at-at .at .ensures) ∙ (at-if1 .if1 .taken)) (r-seq (r-seq ((at-bump .bump .ensures) d) ((at-array-subscripts .array-subscripts .ensures) d)) (w-done ((at-loop .loop .inv) d) (sym (at-at2 .at2 .ensures) ∙ (c .if2 .left))))
+    λ d. r-opt-yes (sym (at-at .at .ensures) ∙ at-if1 .if1 .taken)
+    (r-seq (r-seq (at-bump .bump .ensures d) (at-array-subscripts .array-subscripts .ensures d))
+    (w-done (at-loop .loop .inv d) (sym (at-at2 .at2 .ensures) ∙ c .if2 .left)))
 
 returns-2 : tie.Need-returns-2 Inv-loop μ-loop
 unfolding ones first null
 returns-2 c =
     let at-at = c .before in
-    λ d. r-opt-no (sym (at-at .at .ensures) ∙ (c .if1 .left))
+    λ d. r-opt-no (sym (at-at .at .ensures) ∙ c .if1 .left)
 
 pub segments-spec : {M : Type 1} → statement M
-segments-spec = tie.close (tie.spec Inv-loop μ-loop (λ c κs. search needs) (λ c κs. search needs) (λ c κs. search needs) loop-holds (λ c κs. search needs) (λ c κs. search needs) (λ c κs. search needs) loop-less loop-again (λ c. read-long (returns c 0)) returns returns-2)
+segments-spec =
+    tie.close
+    (tie.spec Inv-loop μ-loop (λ c κs. search needs) (λ c κs. search needs) (λ c κs. search needs) loop-holds (λ c κs. search needs)
+    (λ c κs. search needs) (λ c κs. search needs) loop-less loop-again (λ c. read-long (returns c 0)) returns returns-2)
