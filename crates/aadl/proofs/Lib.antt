@@ -11,5 +11,7 @@ pub mod SymbolLaws
 pub mod Unmarked
 pub mod Demand3
 pub mod AnswerLaws
+pub mod EventWords
+pub mod AnswerDerived
 pub mod Computing
 pub mod Examples

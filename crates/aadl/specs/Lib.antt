@@ -8,4 +8,5 @@ pub mod Symbols
 pub mod Section
 pub mod Reading
 pub mod Answers
+pub mod Demand
 pub mod Listing

@@ -366,7 +366,7 @@ fn shown(symbol: u32) -> u32
 }
 
 // The parser after the token where it stands.
-fn pass(text: &[u8], toks: &[u32], p: Parser) -> Parser
+pub fn pass(text: &[u8], toks: &[u32], p: Parser) -> Parser
     ensures { λ r. ⌜ ((b : List ℕ) → Ran (S.pass (input (now (text .entry)) (now (toks .entry)))) p b r b) ⌝ }
 {
     if p.stop != 0 {

@@ -13,5 +13,6 @@ pub mod OneMore
 pub mod Relabel
 pub mod EventLaws
 pub mod Takes
+pub mod Bounds
 pub mod Spell
 pub mod Examples

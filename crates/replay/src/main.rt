@@ -41,22 +41,11 @@ fn number(a: u8, b: u8, c: u8, d: u8) -> u32 {
     wide(a) + wide(b) * 256 + wide(c) * 65536 + wide(d) * 16777216
 }
 
-// The section call, which is not there yet: 99 is no refusal's number.
-fn section(src: &[u8], tokens: &mut [u32], events: &mut [u32]) -> Answer {
-    Answer {
-        number: 99,
-        place: 0,
-        tokens: 0,
-        taken: 0,
-        events: 0,
-    }
-}
-
 fn answer(src: &[u8], tokens: &mut [u32], events: &mut [u32], only: bool) -> Answer {
     if only {
         return lexer::tokenize(src, tokens);
     }
-    section(src, tokens, events)
+    section::property_section(src, tokens, events)
 }
 
 // Makes a record's call on words that are filled anew, and puts its lines.

@@ -1,0 +1,31 @@
+-- Demand 3, said of an answer of the section call and the event words that it leaves. Assumes nothing.
+use Prim.Native.Nat.{ℕ}
+use mathlib.Core.Path.{_≡_}
+use mathlib.Core.Logic.{_↔_}
+use mathlib.Core.Bool.{false}
+use mathlib.Core.List.{List, map}
+use lib.ListN.{length, take}
+use Rattle.predictive.specs.Forest.{Forest}
+use Rattle.predictive.specs.Events.{Event, erring, any-fault}
+use Rattle.predictive.specs.Tree.{spell}
+use Rattle.aadl.specs.declared.Answer.{Answer}
+use Rattle.aadl.specs.Symbols.{kinds}
+use Rattle.aadl.specs.Reading.{Derivation, event-in}
+
+-- "The answered events are the buffer's first, as many as the answer counts."
+abbrev pub answered-events : Answer → (words : List ℕ) → List Event
+answered-events a ws = map event-in (take (a .events) ws)
+
+-- "Clean: not refused, no Error event, every non-trivia token taken." The first is said where this is used.
+pub record Clean-answer (text : List ℕ) (a : Answer) (words : List ℕ) : Type 0 where
+  pub no-error : erring any-fault (answered-events a words) ≡ false
+  pub all-taken : a .taken ≡ length (kinds text)
+
+-- What demand 3 says of an answer that refuses nothing.
+pub record Read-as-derived (text : List ℕ) (a : Answer) (words : List ℕ) : Type 0 where
+  -- the text is read cleanly exactly when 01's section grammar derives the kinds of its non-trivia tokens
+  pub exactly : Clean-answer text a words ↔ ((t : Forest) × Derivation (kinds text) t)
+  -- the derivation is unique
+  pub unique : (t u : Forest) → Derivation (kinds text) t → Derivation (kinds text) u → t ≡ u
+  -- the tree that the answered events spell is that derivation
+  pub spelled : (t : Forest) → Derivation (kinds text) t → spell (answered-events a words) ≡ t

@@ -1,0 +1,5 @@
+pub mod DecimalLaws
+pub mod WriteLaws
+pub mod LineLaws
+pub mod SpotLaws
+pub mod CursorLaws
