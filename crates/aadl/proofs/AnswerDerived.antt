@@ -1,9 +1,9 @@
 -- Demand 3 of an answer: an answer that refuses nothing passed every check, so its events are all there and each event's word tells it
 -- (EventWords); then it is demand 3 of the definitions. Assumes nothing.
-use Prim.Native.Nat.{ℕ, _≤_, _<_, min}
+use Prim.Native.Nat.{ℕ, _≤_, min}
 use native.Mathlib.Omega.{arith}
 use mathlib.Core.Path.{_≡_, refl, sym, ap, subst, _∙_}
-use mathlib.Core.Bool.{Bool, true, false, cond}
+use mathlib.Core.Bool.{false}
 use mathlib.Core.List.{List, [], _∷_, _++_, map}
 use lib.ListN.{length, take, drop, length-map}
 use lib.Seq.{take-append-seam}
@@ -17,32 +17,13 @@ use Rattle.aadl.specs.Limits.{Limits, most-events}
 use Rattle.aadl.specs.Tokens.{tokens}
 use Rattle.aadl.specs.Symbols.{shown, symbols, kinds}
 use Rattle.aadl.specs.Reading.{events, pushed, too-deep, Clean, event-in, event-word}
-use Rattle.aadl.specs.Answers.{Check, check, text-checks, section-checks, answered, refused, checked, section-answer, left-in, event-words}
+use Rattle.aadl.specs.Answers.{text-checks, section-checks, answered, section-answer, left-in, event-words}
 use Rattle.aadl.specs.Demand.{answered-events, Clean-answer, Read-as-derived}
+use Rattle.aadl.proofs.Checks.{none-refuses, none-refused, section-numbered}
 use Rattle.aadl.proofs.AnswerLaws.{left-answered}
 use Rattle.aadl.proofs.SymbolLaws.{symbols-show-kinds}
 use Rattle.aadl.proofs.Demand3.{Demand-3, demand-3}
 use Rattle.aadl.proofs.EventWords.{words-tell-events}
-
--- EVERY CHECK IS PASSED ------------------------------------------------------------------------------------------------
-
-abbrev Passed : List Check → Type 0
-Passed [] = Unit {0}
-Passed (check n case place ∷ cs) = (case ≡ false) × Passed cs
-
-abbrev Positive : List Check → Type 0
-Positive [] = Unit {0}
-Positive (check n case place ∷ cs) = (0 < n) × Positive cs
-
--- An answer with number 0 passed every check, and is what was to be answered.
-all-passed : (cs : List Check) (a : Answer) → Positive cs → checked cs a .number ≡ 0 → Passed cs × (checked cs a ≡ a)
-all-passed [] a p e = (tt, refl)
-all-passed (check n case place ∷ cs) a p e = go case refl e (λ z. all-passed cs a (p .1) z)
-  where
-    go : (t : Bool) → case ≡ t → cond t (refused n place) (checked cs a) .number ≡ 0 → (checked cs a .number ≡ 0 → Passed cs × (checked cs a ≡ a)) →
-        ((case ≡ false) × Passed cs) × (cond t (refused n place) (checked cs a) ≡ a)
-    go true q z i = let y : ⊥ = omega (arith, z, p .0) in absurd y
-    go false q z i = ((q, i z .0), i z .1)
 
 -- without an opener too many all events are pushed
 pushed-all : (es : List Event) → erring is-nested es ≡ false → pushed es ≡ es
@@ -70,10 +51,12 @@ module _ (limits : Limits) (text : List ℕ) (m n : ℕ) where
   pub answered-whole : section-answer limits text m n .number ≡ 0 → Answered
   unfolding section-answer too-deep
   answered-whole z =
-      let p = all-passed (text-checks limits text m ++ section-checks limits text (min n most-events)) (answered (length (tokens text)) (taken es) (length es)) (omega arith, (omega arith, (omega arith, (omega arith, (omega arith, (omega arith, tt)))))) z in
-      let d : erring is-nested es ≡ false = p .0 .1 .1 .1 .1 .1 .0 in
-      let f : length (pushed es) ≤ min n most-events = ltb-false (min n most-events) (length (pushed es)) (p .0 .1 .1 .1 .1 .0) in
-      record { short = ltb-false (limits .bytes) (length text) (p .0 .0); deep = d; few = subst (λ (l : List Event). length l ≤ min n most-events) (pushed-all es d) f; whole = p .1 }
+      let cs = text-checks limits text m ++ section-checks limits text (min n most-events) in
+      let a = answered (length (tokens text)) (taken es) (length es) in
+      let p = none-refuses cs a (section-numbered limits text m (min n most-events)) z in
+      let d : erring is-nested es ≡ false = p .1 .1 .1 .1 .1 .0 in
+      let f : length (pushed es) ≤ min n most-events = ltb-false (min n most-events) (length (pushed es)) (p .1 .1 .1 .1 .0) in
+      record { short = ltb-false (limits .bytes) (length text) (p .0); deep = d; few = subst (λ (l : List Event). length l ≤ min n most-events) (pushed-all es d) f; whole = none-refused cs a p }
 
   -- The events that an answer counts are the reading's.
   told : (old : List ℕ) → (z : section-answer limits text m n .number ≡ 0) →

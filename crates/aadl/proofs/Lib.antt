@@ -10,6 +10,7 @@ pub mod Literal
 pub mod SymbolLaws
 pub mod Unmarked
 pub mod Demand3
+pub mod Checks
 pub mod AnswerLaws
 pub mod EventWords
 pub mod AnswerDerived

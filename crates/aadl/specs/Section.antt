@@ -84,8 +84,7 @@ path = node CONTAINMENT-PATH (maybe segments)
 -- "Direction → DIRECTION: in, in out, out, provides, requires."
 abbrev pub direction-forms : List Form
 direction-forms =
-    forms (row-in (# DIRECTION))
-    ((IN-KW ∷ []) ∷ (IN-KW ∷ OUT-KW ∷ []) ∷ (OUT-KW ∷ []) ∷ (PROVIDES-KW ∷ []) ∷ (REQUIRES-KW ∷ []) ∷ [])
+    forms (row-in (# DIRECTION)) ((IN-KW ∷ []) ∷ (IN-KW ∷ OUT-KW ∷ []) ∷ (OUT-KW ∷ []) ∷ (PROVIDES-KW ∷ []) ∷ (REQUIRES-KW ∷ []) ∷ [])
 
 -- "Category: data port, event data, event data port, event port, event, data access, bus access, feature, feature group, port,
 -- access; or → COMPONENT_CATEGORY: virtual bus, virtual processor, thread, thread group, subprogram, subprogram group, system,
@@ -194,20 +193,11 @@ computed-value = node COMPUTED-VALUE (token COMPUTE-KW · token L-PAREN · maybe
 -- begins is taken inside an ERROR node"; "a missing operand gives 5 and opens no node".
 abbrev pub operand : Part Rule
 operand =
-    integer-value
-    ∣ real-value
-    ∣ string-value
-    ∣ boolean-value
-    ∣ opens not-value
-    ∣ classifier-value
-    ∣ reference-value
-    ∣ computed-value
-    ∣ opens list-value
-    ∣ opens record-value
-    ∣ named-value
-    ∣ opens signed-value
-    ∣ wrong C-STYLE (# ERROR) 4
-    ∣ fail 5
+    integer-value ∣ real-value ∣ string-value ∣ boolean-value ∣ opens not-value
+    ∣ classifier-value ∣ reference-value ∣ computed-value
+    ∣ opens list-value ∣ opens record-value
+    ∣ named-value ∣ opens signed-value
+    ∣ wrong C-STYLE (# ERROR) 4 ∣ fail 5
 
 -- "Product, then Sum: left-leaning → BINARY_EXPR, `*` `/` before `+` `-`."
 abbrev pub product : Part Rule
@@ -265,12 +255,7 @@ arrow = tok 1 (numbers (FAT-ARROW ∷ PLUS-ARROW ∷ []))
 
 abbrev pub association-rest : Part Rule
 association-rest =
-    arrow
-    · maybe (token CONSTANT-KW)
-    · commas value value
-    · maybe applies-to
-    · maybe in-binding
-    · token SEMICOLON
+    arrow · maybe (token CONSTANT-KW) · commas value value · maybe applies-to · maybe in-binding · token SEMICOLON
 
 abbrev pub association : (first second : Part Rule) → Part Rule
 association first second = node PROPERTY-ASSOCIATION (property-ref first second · association-rest)
@@ -291,8 +276,7 @@ read-association = association (property-name 3) (property-name 2)
 
 abbrev pub section : Part Rule
 section =
-    node PROPERTY-SECTION
-    (token PROPERTIES-KW · either (unless (one (# NONE-KW) ∷ [])) (token NONE-KW · token SEMICOLON) (many read-association))
+    node PROPERTY-SECTION (token PROPERTIES-KW · either (unless (one (# NONE-KW) ∷ [])) (token NONE-KW · token SEMICOLON) (many read-association))
 
 abbrev pub rules : Rule → Part Rule
 rules Expression = expression

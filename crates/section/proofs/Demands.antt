@@ -15,9 +15,10 @@ use Rattle.aadl.specs.Reading.{events}
 use Rattle.aadl.specs.Answers.{Check, check, text-checks, section-checks, answered, refused, checked, section-answer, left-in, token-words, event-words}
 use Rattle.aadl.specs.Demand.{Read-as-derived}
 use Rattle.aadl.proofs.Lists.{Each}
+use Rattle.aadl.proofs.Checks.{Numbered, section-numbered}
 use Rattle.aadl.proofs.AnswerLaws.{left-answered}
 use Rattle.aadl.proofs.AnswerDerived.{answer-derived}
-use Rattle.section.proofs.Refusing.{left-by-refusal, section-numbered, Numbered}
+use Rattle.section.proofs.Refusing.{left-by-refusal}
 
 -- What the contract of the section call says of its answer a and the token and event words ts and es, where the words old and last were lent.
 pub record Called (text old last : List ℕ) (a : Answer) (ts es : List ℕ) : Type 0 where
@@ -102,7 +103,7 @@ every-answer-is-settled {text} {old} {last} {a} {ts} {es} c =
     zeroed : (n p : ℕ) → First (checks text old last) n p → checked (checks text old last) (all-of text) ≡ refused n p →
         Refused text old last a ts es
     zeroed n p f q =
-        let z = first-numbered (checks text old last) n p (section-numbered text (length old) (min (length last) most-events)) f in
+        let z = first-numbered (checks text old last) n p (section-numbered base text (length old) (min (length last) most-events)) f in
         record {
           number = n;
           place = p;
