@@ -16,7 +16,7 @@ use Rattle.aadl.specs.Kinds.{#_, WHITESPACE, COMMENT, FAT-ARROW, COLON-COLON}
 use Rattle.aadl.specs.Words.{bytes, kind-of-word}
 use Rattle.aadl.specs.Bytes.{peek, is-whitespace, is-digit, is-ident-start, is-ident-continue, not-lf, run, run-end}
 use Rattle.aadl.specs.Tokens.{token, word-of, marks, longest-mark, mark-of, token-of}
-use Rattle.aadl.proofs.RunLaws.{run-rest}
+use Rattle.aadl.proofs.RunLaws.{run-more, run-rest}
 use Rattle.aadl.proofs.Bools.{below, below-at}
 use Rattle.runs.specs.Classes.{no-longer, class-of, class-table}
 use Rattle.runs.proofs.ClassTable.{class-at}
@@ -36,6 +36,18 @@ module _ (s : List ℕ) (i : ℕ) (h : i < length s) (l : getD s i 0 < 256) wher
       let b = getD s i 0 in
       ap g (sym head)
       ∙ or-implied (eqb (class-of b) k) (g b) (eq-eqb (class-of b) k (sym (class-at b l) ∙ e)) (below-at (λ (b : ℕ). not (eqb (class-of b) k) || g b) 256 t b l)
+
+  -- a run of such a class goes on from the next byte
+  run-on : (k : ℕ) (g : ℕ → Bool) → below (λ (b : ℕ). not (eqb (class-of b) k) || g b) 256 ≡ true → getD class-table (getD s i 0) 0 ≡ k → run-end g s (i + 1) ≡ run-end g s i
+  run-on k g t e = sym (run-more g s i h (ap g head ∙ of-class k g t e))
+
+  pub word-run : getD class-table (getD s i 0) 0 ≡ 61 → run-end is-ident-continue s (i + 1) ≡ run-end is-ident-continue s i
+  unfolding marks
+  word-run e = run-on 61 is-ident-continue refl e
+
+  pub white-run : getD class-table (getD s i 0) 0 ≡ 1 → run-end is-whitespace s (i + 1) ≡ run-end is-whitespace s i
+  unfolding marks
+  white-run e = run-on 1 is-whitespace refl e
 
   pub word-token : getD class-table (getD s i 0) 0 ≡ 61 → word-of (drop i s) ≡ token-of (drop i s)
   unfolding token-of marks

@@ -95,7 +95,7 @@ fn scan_at(
 {
     let k = classes[wide(s[at])];
     if k == 61 {
-        let e = word_end(s, at, classes);
+        let e = word_end(s, at + 1, classes);
         return Token {
             kind: keyword(&s[at..e], letters, starts, lengths, kinds, slots),
             len: e - at,
@@ -104,7 +104,7 @@ fn scan_at(
     if k == 1 {
         return Token {
             kind: WHITESPACE,
-            len: white_end(s, at, classes) - at,
+            len: white_end(s, at + 1, classes) - at,
         };
     }
     if (5 <= k) & (k < 60) {

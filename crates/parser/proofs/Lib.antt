@@ -12,3 +12,6 @@ pub mod Turns
 pub mod Nodes
 pub mod Chains
 pub mod Levels
+pub mod Lent
+pub mod LentWalk
+pub mod ByValueWalk

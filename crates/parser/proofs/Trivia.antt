@@ -15,7 +15,7 @@ use Rattle.aadl.specs.Tokens.{length-in}
 use Rattle.aadl.specs.Symbols.{is-trivia, symbol-of, Placed, placed}
 use Rattle.parser.specs.declared.Parser.{Parser}
 use Rattle.parser.specs.declared.Place.{Place}
-use Rattle.parser.specs.Input.{Input, kind-in, token-in, without-trivia, standing, rest, past, skip, after-one, next, END, ahead}
+use Rattle.parser.specs.Input.{Input, kind-in, token-in, without-trivia, standing, rest, past, skip, trivia-ahead, after-one, next, END, ahead}
 
 abbrev pub tail : List ℕ → List ℕ
 tail [] = []
@@ -106,6 +106,17 @@ rest-after-one inp p q e f =
 
 -- WORD BY WORD ---------------------------------------------------------------------------------------------------------
 
+-- before trivia a skip goes past one word, and nowhere else
+pub skip-goes : (text : List ℕ) (i b : ℕ) (ws : List ℕ) → trivia-ahead ws ≡ true → after-one text i b ws ≡ skip text i b ws
+unfolding skip after-one
+skip-goes text i b [] e = refl
+skip-goes text i b (w ∷ ws) e = rw e refl
+
+pub skip-stops : (text : List ℕ) (i b : ℕ) (ws : List ℕ) → trivia-ahead ws ≡ false → skip text i b ws ≡ record { at = i; byte = b }
+unfolding skip
+skip-stops text i b [] e = refl
+skip-stops text i b (w ∷ ws) e = rw e refl
+
 module _ (text ws : List ℕ) (i b : ℕ) where
   pub skip-more : i < length ws → is-trivia (kind-in (getD ws i 0)) ≡ true →
       skip text (i + 1) (past text b (getD ws i 0)) (drop (i + 1) ws) ≡ skip text i b (drop i ws)
@@ -119,6 +130,12 @@ module _ (text ws : List ℕ) (i b : ℕ) where
   pub skip-ends : length ws ≤ i → skip text i b (drop i ws) ≡ record { at = i; byte = b }
   unfolding skip
   skip-ends h = rw (drop-of-length-le ws h) refl
+
+  pub trivia-is : i < length ws → trivia-ahead (drop i ws) ≡ is-trivia (kind-in (getD ws i 0))
+  trivia-is h = ap trivia-ahead (drop-cons ws i 0 h)
+
+  pub trivia-ends : length ws ≤ i → trivia-ahead (drop i ws) ≡ false
+  trivia-ends h = ap trivia-ahead (drop-of-length-le ws h)
 
   pub after-one-is : i < length ws → after-one text i b (drop i ws) ≡ skip text (i + 1) (past text b (getD ws i 0)) (drop (i + 1) ws)
   unfolding after-one

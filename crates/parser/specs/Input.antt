@@ -1,6 +1,6 @@
 -- What a parser reads: a text and its token words, and what remains of them where the parser stands. Assumes nothing.
 use Prim.Native.Nat.{ℕ, suc, _+_, _/_, _%_, min}
-use mathlib.Core.Bool.{cond}
+use mathlib.Core.Bool.{Bool, false, cond}
 use mathlib.Core.List.{List, [], _∷_, map}
 use lib.ListN.{length, drop}
 use lib.Dec.{eqb}
@@ -48,6 +48,11 @@ past text b w = min (b + length-in w) (length text)
 unfoldable pub skip : (text : List ℕ) → (at byte : ℕ) → (words : List ℕ) → Place
 skip text i b [] = record { at = i; byte = b }
 skip text i b (w ∷ ws) = cond (is-trivia (kind-in w)) (skip text (suc i) (past text b w) ws) (record { at = i; byte = b })
+
+-- Trivia stand first.
+abbrev pub trivia-ahead : (words : List ℕ) → Bool
+trivia-ahead [] = false
+trivia-ahead (w ∷ ws) = is-trivia (kind-in w)
 
 -- The place after the first of the words from a place on, and after the trivia behind it.
 unfoldable pub after-one : (text : List ℕ) → (at byte : ℕ) → (words : List ℕ) → Place

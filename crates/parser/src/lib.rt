@@ -117,15 +117,29 @@ fn skip(text: &[u8], toks: &[u32], at: usize, byte: usize) -> Place
     Place { at: i, byte: b }
 }
 
+fn trivia_at(toks: &[u32], at: usize) -> bool
+    ensures { λ r. ⌜ r ≡ I.trivia-ahead (drop at (now (toks .entry))) ⌝ }
+{
+    if at < toks.len() {
+        return is_trivia(kind_in(toks[at]));
+    }
+    false
+}
+
 // The place of the token after the one at a place.
 fn next(text: &[u8], toks: &[u32], at: usize, byte: usize) -> Place
     ensures { λ r. ⌜ r ≡ I.after-one (now (text .entry)) at byte (drop at (now (toks .entry))) ⌝ }
 {
-    if at < toks.len() {
-        let b = past(text, byte, toks[at]);
-        return skip(text, toks, at + 1, b);
+    let mut i = at;
+    let mut b = byte;
+    while i < toks.len() {
+        b = past(text, b, toks[i]);
+        i += 1;
+        if !trivia_at(toks, i) {
+            return Place { at: i, byte: b };
+        }
     }
-    Place { at, byte }
+    Place { at: i, byte: b }
 }
 
 // The symbol at a place, or the end's.
@@ -408,7 +422,8 @@ pub fn eat(text: &[u8], toks: &[u32], events: &mut [u32], p: Parser, kind: u32) 
     p
 }
 
-pub fn expect(text: &[u8], toks: &[u32], events: &mut [u32], p: Parser, kind: u32) -> Parser
+// The parser after the token of a kind where it stands, or after the message that it is missing.
+fn expected(text: &[u8], toks: &[u32], events: &mut [u32], p: Parser, kind: u32) -> Parser
     requires { ⌜ kind < 256 ⌝ }
     ensures { λ r. ⌜ ((d : ℕ) → Read (input (now (text .entry)) (now (toks .entry))) d (tok (expected kind) (kind ∷ [])) p (now (events .entry)) r (now (events .exit))) ⌝ }
 {
@@ -419,9 +434,48 @@ pub fn expect(text: &[u8], toks: &[u32], events: &mut [u32], p: Parser, kind: u3
 }
 
 // The Rust panics where the token does not stand; its callers have tested that it does.
+fn bumped(text: &[u8], toks: &[u32], events: &mut [u32], p: Parser, kind: u32) -> Parser
+    requires { ⌜ kind < 256 ⌝ }
+    ensures { λ r. ⌜ ((d : ℕ) → Read (input (now (text .entry)) (now (toks .entry))) d (tok (expected kind) (kind ∷ [])) p (now (events .entry)) r (now (events .exit))) ⌝ }
+{
+    expected(text, toks, events, p, kind)
+}
+
+// The parser is lent, and moves on: each copies it whole and stores what the function by value makes of it.
+impl Parser {
+    pub fn expect(&mut self, text: &[u8], toks: &[u32], events: &mut [u32], kind: u32)
+        requires { ⌜ kind < 256 ⌝ }
+        ensures { λ _. ⌜ ((d : ℕ) → Read (input (now (text .entry)) (now (toks .entry))) d (tok (expected kind) (kind ∷ [])) (now (self .entry)) (now (events .entry)) (now (self .exit)) (now (events .exit))) ⌝ }
+    {
+        let next = expected(text, toks, events, *self, kind);
+        *self = next;
+    }
+
+    pub fn bump(&mut self, text: &[u8], toks: &[u32], events: &mut [u32], kind: u32)
+        requires { ⌜ kind < 256 ⌝ }
+        ensures { λ _. ⌜ ((d : ℕ) → Read (input (now (text .entry)) (now (toks .entry))) d (tok (expected kind) (kind ∷ [])) (now (self .entry)) (now (events .entry)) (now (self .exit)) (now (events .exit))) ⌝ }
+    {
+        let next = bumped(text, toks, events, *self, kind);
+        *self = next;
+    }
+}
+
+// FOR THE READERS, BY VALUE
+
+pub fn expect(text: &[u8], toks: &[u32], events: &mut [u32], p: Parser, kind: u32) -> Parser
+    requires { ⌜ kind < 256 ⌝ }
+    ensures { λ r. ⌜ ((d : ℕ) → Read (input (now (text .entry)) (now (toks .entry))) d (tok (expected kind) (kind ∷ [])) p (now (events .entry)) r (now (events .exit))) ⌝ }
+{
+    let mut q = p;
+    q.expect(text, toks, events, kind);
+    q
+}
+
 pub fn bump(text: &[u8], toks: &[u32], events: &mut [u32], p: Parser, kind: u32) -> Parser
     requires { ⌜ kind < 256 ⌝ }
     ensures { λ r. ⌜ ((d : ℕ) → Read (input (now (text .entry)) (now (toks .entry))) d (tok (expected kind) (kind ∷ [])) p (now (events .entry)) r (now (events .exit))) ⌝ }
 {
-    expect(text, toks, events, p, kind)
+    let mut q = p;
+    q.bump(text, toks, events, kind);
+    q
 }

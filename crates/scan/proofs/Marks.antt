@@ -19,6 +19,8 @@ use Rattle.aadl.specs.Utf8.{sequence}
 use Rattle.aadl.specs.Words.{bytes}
 use Rattle.aadl.specs.Tokens.{token, marks, longest-mark, mark-of}
 use Rattle.aadl.proofs.Lists.{every}
+use Rattle.cursor.specs.declared.Window.{Window}
+use Rattle.cursor.specs.Window.{window-of}
 use Rattle.scan.specs.Inner.{single, longest}
 
 -- THE FIRST THREE BYTES ------------------------------------------------------------------------------------------------
@@ -59,11 +61,10 @@ three-peeks (a ∷ []) = refl
 three-peeks (a ∷ b ∷ []) = refl
 three-peeks (a ∷ b ∷ c ∷ bs) = refl
 
-pub longest-of-three : (bs : List ℕ) (a b c : ℕ) → a ≡ peek bs 0 → b ≡ peek bs 1 → c ≡ peek bs 2
-    → longest bs ≡ longest (a ∷ b ∷ c ∷ [])
+pub longest-of-window : (bs : List ℕ) (w : Window) → w ≡ window-of bs 0 → longest bs ≡ longest (w .first ∷ w .second ∷ w .third ∷ [])
 unfolding marks
-longest-of-three bs a b c p q r =
-    longest-peeks 3 5 marks bs refl ∙ ap longest (three-peeks bs ∙ sym (λ i. p i ∷ q i ∷ r i ∷ []))
+longest-of-window bs w e =
+    longest-peeks 3 5 marks bs refl ∙ ap longest (three-peeks bs ∙ sym (λ i. e i .first ∷ e i .second ∷ e i .third ∷ []))
 
 -- WHAT A SCANNER GIVES -------------------------------------------------------------------------------------------------
 

@@ -10,6 +10,7 @@ use classes::is_ident_start;
 use classes::is_whitespace;
 use classes::peek;
 use classes::take_while;
+use cursor::window_at;
 use keywords::from_keyword;
 use syntax_kind::ANNEX_CLOSE;
 use syntax_kind::ANNEX_OPEN;
@@ -110,9 +111,10 @@ fn is_c_style(s: &[u8], d: usize) -> bool
     if d != 1 {
         return false;
     }
-    let m = peek(s, 1);
-    let b = peek(s, 2);
-    (peek(s, 0) == b'0')
+    let w = window_at(s, 0);
+    let m = w.second;
+    let b = w.third;
+    (w.first == b'0')
         & ((((m == b'x') | (m == b'X')) & is_hex_digit(b))
             | (((m == b'o') | (m == b'O')) & ((b'0' <= b) & (b <= b'7')))
             | (((m == b'b') | (m == b'B')) & ((b'0' <= b) & (b <= b'1'))))
@@ -362,7 +364,8 @@ fn mark_three(a: u8, b: u8, c: u8) -> Token
 fn scan_mark(s: &[u8]) -> Token
     ensures { λ r. ⌜ r ≡ mark-of (now (s .entry)) ⌝ }
 {
-    let mark = mark_three(peek(s, 0), peek(s, 1), peek(s, 2));
+    let w = window_at(s, 0);
+    let mark = mark_three(w.first, w.second, w.third);
     if mark.len != 0 {
         return mark;
     }
@@ -383,14 +386,15 @@ fn scan_mark(s: &[u8]) -> Token
 pub fn scan_token(s: &[u8]) -> Token
     ensures { λ r. ⌜ r ≡ token-of (now (s .entry)) ⌝ }
 {
-    let b = peek(s, 0);
+    let w = window_at(s, 0);
+    let b = w.first;
     if is_whitespace(b) {
         return Token {
             kind: WHITESPACE,
             len: scan_whitespace(s),
         };
     }
-    if (b == b'-') & (peek(s, 1) == b'-') {
+    if (b == b'-') & (w.second == b'-') {
         return Token {
             kind: COMMENT,
             len: scan_comment(s),

@@ -1,5 +1,5 @@
 -- The token at a place by the class of its first byte (FirstByte), which the lent table has; the rest is `scan_other`'s. Assumes nothing.
-use Prim.Native.Nat.{ℕ, _-_, _<_}
+use Prim.Native.Nat.{ℕ, _+_, _-_, _<_}
 use mathlib.Core.Path.{_≡_, sym, ap, _∙_}
 use native.Mathlib.Omega.{arith}
 use lib.ListN.{getD}
@@ -7,11 +7,11 @@ use lib.Dec.{leb, ltb}
 use borrow.Author.Tests.{leb-true, ltb-true}
 use Rattle.predictive.proofs.Tests.{and-l, and-r}
 use Rattle.aadl.specs.Kinds.{#_, WHITESPACE}
-use Rattle.aadl.specs.Bytes.{is-whitespace, is-ident-continue}
+use Rattle.aadl.specs.Bytes.{is-whitespace, is-ident-continue, run-end}
 use Rattle.aadl.specs.Tokens.{token}
 use Rattle.runs.specs.Classes.{class-table}
 use Rattle.aadl.proofs.RunLaws.{run-end-from, run-rest}
-use Rattle.lexer.proofs.FirstByte.{word-token, white-token, lone-mark-token, word-is}
+use Rattle.lexer.proofs.FirstByte.{word-run, white-run, word-token, white-token, lone-mark-token, word-is}
 use borrow.Author.Needs.{needs}
 use Rattle.lexer.proofs.scan_at.Statement.{statement}
 use Rattle.lexer.proofs.scan_at.Tie as tie
@@ -20,43 +20,56 @@ class-read : tie.Need-element-copy-out-k
 class-read c = omega (arith, (c .before .before .shared-slice-known) .given ((c .before .before .before .args) .at), (c .wide) .ensures)
 
 word-from : tie.Need-sub-keyword
-word-from c = omega (arith, (c .word-end) .ensures .0, run-end-from is-ident-continue ((c .before .before .before .before .before .before .args) .s .now) ((c .before .before .before .before .before .before .args) .at))
+word-from c =
+    let a = c .before .before .before .before .before .before .args in
+    omega (arith, c .word-end .ensures .0, run-end-from is-ident-continue (a .s .now) (a .at + 1))
 
 word-part : tie.Need-part-keyword-start
-word-part c = omega (arith, (c .word-end) .ensures .0, run-end-from is-ident-continue ((c .before .before .before .before .before .before .args) .s .now) ((c .before .before .before .before .before .before .args) .at))
+word-part c =
+    let a = c .before .before .before .before .before .before .args in
+    omega (arith, c .word-end .ensures .0, run-end-from is-ident-continue (a .s .now) (a .at + 1))
 
 word-length : tie.Need-sub-t23
-word-length c = omega (arith, (c .before .before .word-end) .ensures .0, run-end-from is-ident-continue ((c .before .before .before .before .before .before .before .before .args) .s .now) ((c .before .before .before .before .before .before .before .before .args) .at))
+word-length c =
+    let a = c .before .before .before .before .before .before .before .before .args in
+    omega (arith, c .before .before .word-end .ensures .0, run-end-from is-ident-continue (a .s .now) (a .at + 1))
 
 word : tie.Need-returns
 word c =
-    let s = (c .before .before .before .before .before .before .before .before .args) .s .now in
-    let at = (c .before .before .before .before .before .before .before .before .args) .at in
-    let l : getD s at 0 < 256 = omega (arith, (c .before .before .before .before .before .before .before .shared-slice-known) .given at) in
-    let k : getD class-table (getD s at 0) 0 ≡ 61 = (λ j. getD (sym ((c .before .before .before .before .before .before .before .before .pre) .1) j) (sym ((c .before .before .before .before .before .wide) .ensures) j) 0) ∙ (c .before .before .before .if1) .taken in
-    word-is s at ((c .before .before .word-end) .result) ((c .keyword) .result) ((c .before .before .word-end) .ensures .0) ((c .keyword) .ensures) ∙ word-token s at ((c .before .before .before .before .before .before .before .before .pre) .0) l k
+    let q = c .before .before .before .before .before .before .before .before in
+    let s = q .args .s .now in
+    let at = q .args .at in
+    let e = c .before .before .word-end in
+    let l : getD s at 0 < 256 = omega (arith, c .before .before .before .before .before .before .before .shared-slice-known .given at) in
+    let k : getD class-table (getD s at 0) 0 ≡ 61 = (λ j. getD (sym (q .pre .1) j) (sym (c .before .before .before .before .before .wide .ensures) j) 0) ∙ c .before .before .before .if1 .taken in
+    word-is s at (e .result) (c .keyword .result) (e .ensures .0 ∙ word-run s at (q .pre .0) l k) (c .keyword .ensures) ∙ word-token s at (q .pre .0) l k
 
-white-length : tie.Need-sub-t25
-white-length c = omega (arith, (c .white-end) .ensures .0, run-end-from is-whitespace ((c .before .before .before .before .before .before .before .args) .s .now) ((c .before .before .before .before .before .before .before .args) .at))
+white-length : tie.Need-sub-t26
+white-length c =
+    let a = c .before .before .before .before .before .before .before .args in
+    omega (arith, c .white-end .ensures .0, run-end-from is-whitespace (a .s .now) (a .at + 1))
 
 white : tie.Need-returns-2
 white c =
-    let s = (c .before .before .before .before .before .before .before .args) .s .now in
-    let at = (c .before .before .before .before .before .before .before .args) .at in
-    let l : getD s at 0 < 256 = omega (arith, (c .before .before .before .before .before .before .shared-slice-known) .given at) in
-    let k : getD class-table (getD s at 0) 0 ≡ 1 = (λ j. getD (sym ((c .before .before .before .before .before .before .before .pre) .1) j) (sym ((c .before .before .before .before .wide) .ensures) j) 0) ∙ (c .before .if2) .taken in
-    ap (token (# WHITESPACE)) (ap (λ (e : ℕ). e - at) ((c .white-end) .ensures .0) ∙ run-rest is-whitespace s at) ∙ white-token s at ((c .before .before .before .before .before .before .before .pre) .0) l k
+    let q = c .before .before .before .before .before .before .before in
+    let s = q .args .s .now in
+    let at = q .args .at in
+    let l : getD s at 0 < 256 = omega (arith, c .before .before .before .before .before .before .shared-slice-known .given at) in
+    let k : getD class-table (getD s at 0) 0 ≡ 1 = (λ j. getD (sym (q .pre .1) j) (sym (c .before .before .before .before .wide .ensures) j) 0) ∙ c .before .if2 .taken in
+    let e : c .white-end .result ≡ run-end is-whitespace s at = c .white-end .ensures .0 ∙ white-run s at (q .pre .0) l k in
+    ap (token (# WHITESPACE)) (ap (λ (e : ℕ). e - at) e ∙ run-rest is-whitespace s at) ∙ white-token s at (q .pre .0) l k
 
 mark : tie.Need-returns-3
 mark c =
-    let s = (c .before .before .before .before .before .before .before .before .args) .s .now in
-    let at = (c .before .before .before .before .before .before .before .before .args) .at in
-    let l : getD s at 0 < 256 = omega (arith, (c .before .before .before .before .before .before .before .shared-slice-known) .given at) in
-    let k = getD ((c .before .before .before .before .before .before .before .before .args) .classes .now) ((c .before .before .before .before .before .wide) .result) 0 in
-    let e : getD class-table (getD s at 0) 0 ≡ k = λ j. getD (sym ((c .before .before .before .before .before .before .before .before .pre) .1) j) (sym ((c .before .before .before .before .before .wide) .ensures) j) 0 in
-    let big = leb-true 5 k (and-l (leb 5 k) (ltb k 60) ((c .before .if3) .taken)) in
-    let small = ltb-true k 60 (and-r (leb 5 k) (ltb k 60) ((c .before .if3) .taken)) in
-    ap (λ (n : ℕ). token n 1) ((c .wide32) .ensures) ∙ lone-mark-token s at k ((c .before .before .before .before .before .before .before .before .pre) .0) l e big small
+    let q = c .before .before .before .before .before .before .before .before in
+    let s = q .args .s .now in
+    let at = q .args .at in
+    let l : getD s at 0 < 256 = omega (arith, c .before .before .before .before .before .before .before .shared-slice-known .given at) in
+    let k = getD (q .args .classes .now) (c .before .before .before .before .before .wide .result) 0 in
+    let e : getD class-table (getD s at 0) 0 ≡ k = λ j. getD (sym (q .pre .1) j) (sym (c .before .before .before .before .before .wide .ensures) j) 0 in
+    let big = leb-true 5 k (and-l (leb 5 k) (ltb k 60) (c .before .if3 .taken)) in
+    let small = ltb-true k 60 (and-r (leb 5 k) (ltb k 60) (c .before .if3 .taken)) in
+    ap (λ (n : ℕ). token n 1) (c .wide32 .ensures) ∙ lone-mark-token s at k (q .pre .0) l e big small
 
 pub scan-at-spec : {M : Type 1} → statement M
 scan-at-spec =
@@ -65,6 +78,7 @@ scan-at-spec =
     (λ c. search needs)
     (λ c κs. tt)
     class-read
+    (λ c. search needs)
     (λ c κs. search needs)
     word-from
     word-part
@@ -72,6 +86,7 @@ scan-at-spec =
     (λ c κs. search needs)
     word-length
     word
+    (λ c. search needs)
     (λ c κs. search needs)
     white-length
     white

@@ -1,28 +1,19 @@
--- The token where it stands, else its message (Taking). Assumes nothing.
-use mathlib.Core.Path.{sym, _∙_}
-use borrow.Author.Needs.{needs}
-use Rattle.predictive.specs.Reader.{ones}
-use Rattle.parser.proofs.Taking.{r-tok-yes, r-tok-no}
-use Rattle.parser.proofs.expect.Statement.{statement}
-use Rattle.parser.proofs.expect.Tie as tie
+-- A walk (ByValueWalk), at `Parser::expect`. Assumes nothing.
+use contract.Running.{givenOf, tables, tablesOf}
+use denote.Triple.Spec.{tripleOf}
+use denote.Triple.Table.{entered, cited}
+use Rattle.parser.proofs.ByValueWalk.{Lent, by-value-meets}
+use Rattle.parser.proofs.Parser.expect.Symbol as called
+use Rattle.parser.proofs.Parser.expect.Met as called-thm
+use Rattle.parser.proofs.expect as expect
+use Rattle.parser.proofs.expect.Key.{name as #parser·expect}
+use Rattle.parser.proofs.expect.Statement as stated
+use Rattle.parser.proofs.expect.Code as code
 
-returns : tie.Need-returns
-unfolding ones
-returns c = λ d. r-tok-yes (sym (c .before .before .before .before .before .at .ensures) ∙ c .before .before .before .before .if1 .taken) (c .before .before .bump-any .ensures d)
-
-returns-2 : tie.Need-returns-2
-unfolding ones
-returns-2 c = λ d. r-tok-no (sym (c .before .before .before .before .before .at .ensures) ∙ c .before .before .before .before .if1 .left) (c .before .before .error .ensures)
-
-pub expect-spec : {M : Type 1} → statement M
-expect-spec =
-    tie.close
-    (tie.spec
-    (λ c κs. search needs)
-    (λ c κs. search needs)
-    (λ c. search needs)
-    returns
-    (λ c. search needs)
-    (λ c κs. search needs)
-    (λ c. search needs)
-    returns-2)
+pub expect-spec : {M : Type 1} → stated.statement M
+unfolding code.routine tablesOf
+expect-spec 𝓤 H 𝓜 𝓖 𝓡 =
+    entered 𝓤 H (tripleOf 𝓤 H (𝓖 .A) expect.signature (expect.spec 𝓤 H (𝓖 .A) (𝓜 .mem) (𝓡 .run)))
+    (tables 𝓤 H 𝓜 𝓡 code.env .C) (tables 𝓤 H 𝓜 𝓡 code.env .Λ) #parser·expect code.function (code.unfolded 𝓤 H 𝓜 𝓡)
+    (by-value-meets 𝓤 H (𝓖 .A) (givenOf 𝓤 H 𝓜 𝓖) (𝓜 .mem) (𝓡 .run) called.name (tablesOf 𝓤 H 𝓜 (tables 𝓤 H 𝓜 𝓡 code.env))
+    (cited 𝓤 H (Lent 𝓤 H (𝓖 .A) (𝓜 .mem) (𝓡 .run)) 𝓜 𝓡 code.env called.name called.routine code.calls-parser·Parser·expect (called-thm.met 𝓤 H 𝓜 𝓖 𝓡)))

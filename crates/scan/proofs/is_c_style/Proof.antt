@@ -10,18 +10,14 @@ returns c = rw (ne-eqb (c .before .before .args .d) 1 (c .if1 .taken)) refl
 
 returns-2 : tie.Need-returns-2
 returns-2 c =
-    let q1 = c .before .before .before .before in
-    let m = c .before .before .before .peek .ensures in
-    let b = c .before .before .peek2 .ensures in
-    rw (q1 .if1 .left, c .is-hex-digit .ensures, c .before .peek3 .ensures, b, m) refl
+    let q1 = c .before .before .before in
+    rw (q1 .if1 .left, c .is-hex-digit .ensures, c .before .before .window-at .ensures) refl
 
 pub is-c-style-spec : {M : Type 1} → statement M
 is-c-style-spec =
     tie.close
     (tie.spec
     returns
-    (λ c κs. tt)
-    (λ c κs. tt)
     (λ c κs. tt)
     (λ c κs. tt)
     returns-2)

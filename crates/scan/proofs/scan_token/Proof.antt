@@ -7,6 +7,7 @@ use Rattle.aadl.specs.declared.Quoted.{Quoted}
 use Rattle.aadl.specs.Bytes.{peek, is-whitespace, is-digit, is-ident-start}
 use Rattle.aadl.specs.Kinds.{WHITESPACE, COMMENT, STRING-LIT, #_}
 use Rattle.aadl.specs.Tokens.{token, token-of}
+use Rattle.cursor.specs.declared.Window.{Window}
 use Rattle.scan.proofs.scan_token.Statement.{statement}
 use Rattle.scan.proofs.scan_token.Tie as tie
 
@@ -15,7 +16,8 @@ unfolding token-of
 returns c =
     let q1 = c .before in
     let s = q1 .before .before .before .before .args .s .now in
-    let b = q1 .before .before .peek .ensures in
+    let w = q1 .before .before .window-at .ensures in
+    let b = ap (λ (x : Window). x .first) w in
     let e : is-whitespace (peek s 0) ≡ true = sym (q1 .before .is-whitespace .ensures ∙ ap is-whitespace b) ∙ q1 .if1 .taken in
     rw e (ap (token (# WHITESPACE)) (c .scan-whitespace .ensures))
 
@@ -25,10 +27,11 @@ returns-2 c =
     let q2 = c .before in
     let q1 = q2 .before .before in
     let s = q1 .before .before .before .before .args .s .now in
-    let b = q1 .before .before .peek .ensures in
+    let w = q1 .before .before .window-at .ensures in
+    let b = ap (λ (x : Window). x .first) w in
     let e : is-whitespace (peek s 0) ≡ false = sym (q1 .before .is-whitespace .ensures ∙ ap is-whitespace b) ∙ q1 .if1 .left in
     let f : (eqb (peek s 0) 45 && eqb (peek s 1) 45) ≡ true =
-    sym (λ i. eqb (b i) 45 && eqb (q2 .before .peek2 .ensures i) 45) ∙ q2 .if2 .taken in
+    sym (λ i. eqb (w i .first) 45 && eqb (w i .second) 45) ∙ q2 .if2 .taken in
     rw (e, f) (ap (token (# COMMENT)) (c .scan-comment .ensures))
 
 returns-3 : tie.Need-returns-3
@@ -38,10 +41,11 @@ returns-3 c =
     let q2 = q3 .before in
     let q1 = q2 .before .before in
     let s = q1 .before .before .before .before .args .s .now in
-    let b = q1 .before .before .peek .ensures in
+    let w = q1 .before .before .window-at .ensures in
+    let b = ap (λ (x : Window). x .first) w in
     let e : is-whitespace (peek s 0) ≡ false = sym (q1 .before .is-whitespace .ensures ∙ ap is-whitespace b) ∙ q1 .if1 .left in
     let f : (eqb (peek s 0) 45 && eqb (peek s 1) 45) ≡ false =
-    sym (λ i. eqb (b i) 45 && eqb (q2 .before .peek2 .ensures i) 45) ∙ q2 .if2 .left in
+    sym (λ i. eqb (w i .first) 45 && eqb (w i .second) 45) ∙ q2 .if2 .left in
     let g = eq-eqb (peek s 0) 34 (sym b ∙ q3 .if3 .taken) in
     rw (e, f, g) (ap (λ (q : Quoted). token (# STRING-LIT) (q .len)) (c .scan-string .ensures))
 
@@ -53,10 +57,11 @@ returns-4 c =
     let q2 = q3 .before in
     let q1 = q2 .before .before in
     let s = q1 .before .before .before .before .args .s .now in
-    let b = q1 .before .before .peek .ensures in
+    let w = q1 .before .before .window-at .ensures in
+    let b = ap (λ (x : Window). x .first) w in
     let e : is-whitespace (peek s 0) ≡ false = sym (q1 .before .is-whitespace .ensures ∙ ap is-whitespace b) ∙ q1 .if1 .left in
     let f : (eqb (peek s 0) 45 && eqb (peek s 1) 45) ≡ false =
-    sym (λ i. eqb (b i) 45 && eqb (q2 .before .peek2 .ensures i) 45) ∙ q2 .if2 .left in
+    sym (λ i. eqb (w i .first) 45 && eqb (w i .second) 45) ∙ q2 .if2 .left in
     let g = ne-eqb (peek s 0) 34 (λ z. q3 .if3 .left (b ∙ z)) in
     let h : is-digit (peek s 0) ≡ true = sym (q4 .before .is-digit .ensures ∙ ap is-digit b) ∙ q4 .if4 .taken in
     rw (e, f, g, h) (c .scan-number .ensures)
@@ -70,10 +75,11 @@ returns-5 c =
     let q2 = q3 .before in
     let q1 = q2 .before .before in
     let s = q1 .before .before .before .before .args .s .now in
-    let b = q1 .before .before .peek .ensures in
+    let w = q1 .before .before .window-at .ensures in
+    let b = ap (λ (x : Window). x .first) w in
     let e : is-whitespace (peek s 0) ≡ false = sym (q1 .before .is-whitespace .ensures ∙ ap is-whitespace b) ∙ q1 .if1 .left in
     let f : (eqb (peek s 0) 45 && eqb (peek s 1) 45) ≡ false =
-    sym (λ i. eqb (b i) 45 && eqb (q2 .before .peek2 .ensures i) 45) ∙ q2 .if2 .left in
+    sym (λ i. eqb (w i .first) 45 && eqb (w i .second) 45) ∙ q2 .if2 .left in
     let g = ne-eqb (peek s 0) 34 (λ z. q3 .if3 .left (b ∙ z)) in
     let h : is-digit (peek s 0) ≡ false = sym (q4 .before .is-digit .ensures ∙ ap is-digit b) ∙ q4 .if4 .left in
     let k : is-ident-start (peek s 0) ≡ true = sym (q5 .before .is-ident-start .ensures ∙ ap is-ident-start b) ∙ q5 .if5 .taken in
@@ -88,10 +94,11 @@ returns-6 c =
     let q2 = q3 .before in
     let q1 = q2 .before .before in
     let s = q1 .before .before .before .before .args .s .now in
-    let b = q1 .before .before .peek .ensures in
+    let w = q1 .before .before .window-at .ensures in
+    let b = ap (λ (x : Window). x .first) w in
     let e : is-whitespace (peek s 0) ≡ false = sym (q1 .before .is-whitespace .ensures ∙ ap is-whitespace b) ∙ q1 .if1 .left in
     let f : (eqb (peek s 0) 45 && eqb (peek s 1) 45) ≡ false =
-    sym (λ i. eqb (b i) 45 && eqb (q2 .before .peek2 .ensures i) 45) ∙ q2 .if2 .left in
+    sym (λ i. eqb (w i .first) 45 && eqb (w i .second) 45) ∙ q2 .if2 .left in
     let g = ne-eqb (peek s 0) 34 (λ z. q3 .if3 .left (b ∙ z)) in
     let h : is-digit (peek s 0) ≡ false = sym (q4 .before .is-digit .ensures ∙ ap is-digit b) ∙ q4 .if4 .left in
     let k : is-ident-start (peek s 0) ≡ false = sym (q5 .before .is-ident-start .ensures ∙ ap is-ident-start b) ∙ q5 .if5 .left in
@@ -105,7 +112,6 @@ scan-token-spec =
     (λ c κs. tt)
     (λ c κs. tt)
     returns
-    (λ c κs. tt)
     (λ c κs. tt)
     returns-2
     (λ c κs. tt)
