@@ -1,1 +1,3 @@
 pub mod Operands
+pub mod Alone
+pub mod Operators

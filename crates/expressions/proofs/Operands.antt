@@ -5,18 +5,20 @@ use native.Mathlib.Omega.{arith}
 use mathlib.Core.Path.{_≡_, refl, sym, ap, subst, _∙_}
 use mathlib.Core.Bool.{true, false}
 use mathlib.Core.List.{List, [], _∷_, _++_}
+use lib.ListN.{length}
+use lib.Dec.{eqb}
 use types.Run.{OneOf}
 use borrow.Author.Tests.{eq-eqb, ne-eqb}
 use Rattle.predictive.specs.Forest.{message}
-use Rattle.predictive.specs.Grammar.{Head, at, has, free, Part, wrong, fail, either, inside, opens, before, rule}
+use Rattle.predictive.specs.Grammar.{Head, at, has, free, Part, opt, wrong, fail, either, inside, opens, before, rule}
 use Rattle.predictive.specs.Reader.{miss, ones, first, null, take-one, take-any, step, below, read}
-use Rattle.predictive.proofs.Tests.{_and_}
+use Rattle.predictive.proofs.Tests.{_and_, never}
 use Rattle.predictive.proofs.Lookahead.{single}
 use Rattle.predictive.proofs.Heads.{same, among, within-heads, within-absent}
 use Rattle.predictive.specs.Notation.{_·_}
-use Rattle.aadl.specs.Kinds.{#_, ERROR, COMMA, STAR, SLASH, BINARY-EXPR, NOT-KW, L-PAREN, L-BRACKET, PLUS, MINUS, INTEGER-LIT, REAL-LIT, STRING-LIT, TRUE-KW, FALSE-KW, CLASSIFIER-KW, REFERENCE-KW, COMPUTE-KW, IDENT}
+use Rattle.aadl.specs.Kinds.{#_, ERROR, COMMA, DOT-DOT, STAR, SLASH, BINARY-EXPR, NOT-KW, L-PAREN, L-BRACKET, PLUS, MINUS, INTEGER-LIT, REAL-LIT, STRING-LIT, TRUE-KW, FALSE-KW, CLASSIFIER-KW, REFERENCE-KW, COMPUTE-KW, IDENT}
 use Rattle.aadl.specs.Symbols.{C-STYLE}
-use Rattle.aadl.specs.Section.{Rule, Expression, Negated, token, one-of, product, sum, names, keywords, numbers, grammar, operand, expression, integer-value, real-value, string-value, boolean-value, not-value, classifier-value, reference-value, computed-value, list-value, record-value, named-value}
+use Rattle.aadl.specs.Section.{Rule, Expression, Negated, token, one-of, product, sum, delta-value, names, keywords, numbers, grammar, operand, expression, integer-value, real-value, string-value, boolean-value, not-value, classifier-value, reference-value, computed-value, list-value, record-value, named-value}
 use Rattle.aadl.specs.Section as G
 use Rattle.parser.specs.declared.Parser.{Parser}
 use Rattle.parser.specs.declared.Completed.{Completed}
@@ -156,6 +158,12 @@ failed-all N (k ∷ ks) x r = let i = failed-all (N × (OneOf (k ∷ []) x → �
 pub none-stands : (inp : Input) (p : Parser) (ks : List ℕ) {x : ℕ} → has ks END ≡ false → x ≡ nth inp p 0 → Failed (Unit {0}) ks x → stands inp (ones ks) p ≡ false
 none-stands inp p ks {x} e g r = sym (kinds-are inp p ks e g) ∙ failed-all (Unit {0}) ks x r .0
 
+-- The same with the tests of `true` and `false`, which are made before the `match`.
+pub with-booleans : {x : ℕ} → eqb x 106 ≡ false → eqb x 107 ≡ false →
+    Failed (Unit {0}) (numbers (INTEGER-LIT ∷ REAL-LIT ∷ STRING-LIT ∷ CLASSIFIER-KW ∷ REFERENCE-KW ∷ COMPUTE-KW ∷ IDENT ∷ []) ++ C-STYLE ∷ []) x → Failed (Unit {0}) others x
+with-booleans {x} t f r =
+    (((((((r .0 .0 .0 .0 .0, λ e. never (sym t ∙ eq-eqb x 106 e)), λ e. never (sym f ∙ eq-eqb x 107 e)), r .0 .0 .0 .0 .1), r .0 .0 .0 .1), r .0 .0 .1), r .0 .1), r .1)
+
 -- .. or by none of those that begin the others: then a sign is taken
 pub opened-else : {inp : Input} {x : ℕ} {p q : Parser} {b : List ℕ} {r : Completed} {o : Operand} {c : List ℕ} → (p .left ≡ 0 → ⊥) → q ≡ with-left (p .left - 1) p →
     x ≡ nth inp q 0 →
@@ -205,11 +213,19 @@ factor = one-of (STAR ∷ SLASH ∷ []) · operand
 abbrev pub term : Part Rule
 term = one-of (PLUS ∷ MINUS ∷ []) · product
 
+-- what may follow the first sum of an expression
+abbrev pub ranged : Part Rule
+ranged = token DOT-DOT · sum · opt free delta-value
+
+-- what any of these begins with
+abbrev pub operators : List Head
+operators = ones (numbers (STAR ∷ SLASH ∷ PLUS ∷ MINUS ∷ DOT-DOT ∷ []))
+
 abbrev pub next-item : Part Rule
 next-item = token COMMA · rule Expression
 
 -- Where a loop over a chain stands that began at q₀ with the node lhs₀: a chain of whatever that is the first operand of.
-abbrev pub Chained : Input → (P Q : Part Rule) → Parser → List ℕ → CompletedMarker → Parser → List ℕ → CompletedMarker → Type 0
-Chained inp P Q q₀ b₁ lhs₀ q b lhs =
-    (q .left ≡ q₀ .left)
-    × ((p₀ : Parser) (b₀ : List ℕ) → ReadOperand inp (p₀ .left) P p₀ b₀ (record { p = q₀; lhs = Node lhs₀ }) b₁ → Chaining inp (p₀ .left) (# BINARY-EXPR) P Q p₀ b₀ q b (lhs .0))
+pub record Chained (inp : Input) (P Q : Part Rule) (q₀ : Parser) (b₁ : List ℕ) (lhs₀ : CompletedMarker) (q : Parser) (b : List ℕ) (lhs : CompletedMarker) : Type 0 where
+  pub left : q .left ≡ q₀ .left
+  pub long : length b ≡ length b₁
+  pub on : (p₀ : Parser) (b₀ : List ℕ) → ReadOperand inp (p₀ .left) P p₀ b₀ (record { p = q₀; lhs = Node lhs₀ }) b₁ → Chaining inp (p₀ .left) (# BINARY-EXPR) P Q p₀ b₀ q b (lhs .0)

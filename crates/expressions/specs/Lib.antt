@@ -1,1 +1,2 @@
 pub mod Openers
+pub mod Behind

@@ -2,6 +2,7 @@
 use grammar::classifier_value;
 use parser::C_STYLE;
 use parser::Completed;
+use parser::END;
 use parser::Lhs;
 use parser::Operand;
 use parser::Parser;
@@ -56,17 +57,19 @@ use values::real_value;
 use values::reference_value;
 use values::string_value;
 ghost use mathlib.Core.Path.{_≡_};
-ghost use mathlib.Core.List.{[], _∷_};
-ghost use Prim.Native.Nat.{suc};
+ghost use mathlib.Core.List.{List, [], _∷_};
+ghost use Prim.Native.Nat.{ℕ, suc};
 ghost use Rattle.predictive.specs.Grammar.{Choice, opt, opens};
 ghost use Rattle.predictive.specs.Reader.{ones};
 ghost use Rattle.aadl.specs.Kinds as K;
 ghost use Rattle.aadl.specs.Section as G;
 ghost use Rattle.parser.specs.declared.Lhs.the-variants.{Node};
-ghost use Rattle.parser.specs.Input.{input};
+ghost use Rattle.aadl.specs.Symbols.{shown};
+ghost use Rattle.parser.specs.Input.{input, nth};
 ghost use Rattle.parser.specs.State.{with-left};
 ghost use Rattle.parser.specs.Reads.{stands, Read, ReadNode, ReadOperand};
 ghost use Rattle.expressions.specs.Openers.{signed-value, opener-value};
+ghost use Rattle.expressions.specs.Behind.{Extends, ToRange, ToExpression};
 
 // OPERANDS
 
@@ -107,15 +110,16 @@ fn property_expression_primary(text: &[u8], toks: &[u32], events: &mut [u32], p:
     ensures { λ r. ⌜ ReadOperand (input (now (text .entry)) (now (toks .entry))) (p .left) G.operand p (now (events .entry)) r (now (events .exit)) ⌝ }
 {
     if at_opener(text, toks, p) {
-        return opener_value(text, toks, events, p);
+        return opener(text, toks, events, p);
     }
     let kind = current(text, toks, p);
+    if (kind == TRUE_KW) | (kind == FALSE_KW) {
+        return operand(boolean_value(text, toks, events, p));
+    }
     match kind {
         INTEGER_LIT => operand(integer_value(text, toks, events, p)),
         REAL_LIT => operand(real_value(text, toks, events, p)),
         STRING_LIT => operand(string_value(text, toks, events, p)),
-        TRUE_KW => operand(boolean_value(text, toks, events, p)),
-        FALSE_KW => operand(boolean_value(text, toks, events, p)),
         CLASSIFIER_KW => operand(classifier_value(text, toks, events, p)),
         REFERENCE_KW => operand(reference_value(text, toks, events, p)),
         COMPUTE_KW => operand(computed_value(text, toks, events, p)),
@@ -132,7 +136,7 @@ fn property_expression_primary(text: &[u8], toks: &[u32], events: &mut [u32], p:
 }
 
 // What begins with an opener: refused where none is left.
-fn opener_value(text: &[u8], toks: &[u32], events: &mut [u32], p: Parser) -> Operand
+fn opener(text: &[u8], toks: &[u32], events: &mut [u32], p: Parser) -> Operand
     ensures { λ r. ⌜ ReadOperand (input (now (text .entry)) (now (toks .entry))) (p .left) (opens opener-value) p (now (events .entry)) r (now (events .exit)) ⌝ }
 {
     let left = p.left;
@@ -149,7 +153,7 @@ fn opener_value(text: &[u8], toks: &[u32], events: &mut [u32], p: Parser) -> Ope
         NOT_KW => closed(not_value(text, toks, events, q), left),
         L_PAREN => closed(list_value(text, toks, events, q), left),
         L_BRACKET => closed(record_value(text, toks, events, q), left),
-        _ => closed(signed_value(text, toks, events, q), left),
+        _ => closed(signed(text, toks, events, q), left),
     }
 }
 
@@ -158,7 +162,8 @@ fn not_value(text: &[u8], toks: &[u32], events: &mut [u32], p: Parser) -> Comple
 {
     let s = start(events, p);
     let p = bump(text, toks, events, s.p, NOT_KW);
-    let p = property_expression(text, toks, events, p);
+    let o = property_expression_primary(text, toks, events, p);
+    let p = behind(text, toks, events, o);
     complete(events, p, s.m, BOOLEAN_VALUE)
 }
 
@@ -199,7 +204,7 @@ fn record_value(text: &[u8], toks: &[u32], events: &mut [u32], p: Parser) -> Com
 }
 
 // A sign and the operand that it is for, not the sum around them: `-1 + 2` is a sum.
-fn signed_value(text: &[u8], toks: &[u32], events: &mut [u32], p: Parser) -> Completed
+fn signed(text: &[u8], toks: &[u32], events: &mut [u32], p: Parser) -> Completed
     ensures { λ r. ⌜ ReadNode (input (now (text .entry)) (now (toks .entry))) (suc (p .left)) signed-value p (now (events .entry)) r (now (events .exit)) ⌝ }
 {
     let s = start(events, p);
@@ -226,10 +231,34 @@ fn at_sign(text: &[u8], toks: &[u32], p: Parser) -> bool
     (kind == PLUS) | (kind == MINUS)
 }
 
-fn multiplicative_expression(text: &[u8], toks: &[u32], events: &mut [u32], p: Parser) -> Operand
-    ensures { λ r. ⌜ ReadOperand (input (now (text .entry)) (now (toks .entry))) (p .left) G.product p (now (events .entry)) r (now (events .exit)) ⌝ }
+// The kind of the token where the parser stands, a C-style literal's too, or the end's.
+fn kind_at(toks: &[u32], p: Parser) -> u32
+    ensures { λ r. ⌜ ((text : List ℕ) → r ≡ shown (nth (input text (now (toks .entry))) p 0)) ⌝ }
 {
-    let o = property_expression_primary(text, toks, events, p);
+    if p.stop != 0 {
+        return END;
+    }
+    let at = p.at;
+    if at < toks.len() {
+        return toks[at] / 65536 % 256;
+    }
+    END
+}
+
+// An operator stands: `*`, `/`, `+`, `-` or `..`.
+fn at_operator(text: &[u8], toks: &[u32], p: Parser) -> bool
+    ensures { λ r. ⌜ r ≡ stands (input (now (text .entry)) (now (toks .entry))) (ones (G.numbers (K.STAR ∷ K.SLASH ∷ K.PLUS ∷ K.MINUS ∷ K.DOT-DOT ∷ []))) p ⌝ }
+{
+    let kind = kind_at(toks, p);
+    (kind == STAR) | (kind == SLASH) | (kind == PLUS) | (kind == MINUS) | (kind == DOT_DOT)
+}
+
+// Most operands have no operator behind them: what is behind one has functions of its own, and the readers stay small.
+
+// The factors behind an operand, if any: a product.
+fn factors(text: &[u8], toks: &[u32], events: &mut [u32], o: Operand) -> Operand
+    ensures { λ r. ⌜ Extends (input (now (text .entry)) (now (toks .entry))) G.operand G.product o (now (events .entry)) r (now (events .exit)) ⌝ }
+{
     let lhs = o.lhs;
     let Lhs::Node(m) = lhs else {
         return o;
@@ -250,10 +279,17 @@ fn multiplicative_expression(text: &[u8], toks: &[u32], events: &mut [u32], p: P
     }
 }
 
-fn additive_expression(text: &[u8], toks: &[u32], events: &mut [u32], p: Parser) -> Operand
-    ensures { λ r. ⌜ ReadOperand (input (now (text .entry)) (now (toks .entry))) (p .left) G.sum p (now (events .entry)) r (now (events .exit)) ⌝ }
+fn multiplicative_expression(text: &[u8], toks: &[u32], events: &mut [u32], p: Parser) -> Operand
+    ensures { λ r. ⌜ ReadOperand (input (now (text .entry)) (now (toks .entry))) (p .left) G.product p (now (events .entry)) r (now (events .exit)) ⌝ }
 {
-    let o = multiplicative_expression(text, toks, events, p);
+    let o = property_expression_primary(text, toks, events, p);
+    factors(text, toks, events, o)
+}
+
+// The terms behind a product, if any: a sum.
+fn terms(text: &[u8], toks: &[u32], events: &mut [u32], o: Operand) -> Operand
+    ensures { λ r. ⌜ Extends (input (now (text .entry)) (now (toks .entry))) G.product G.sum o (now (events .entry)) r (now (events .exit)) ⌝ }
+{
     let lhs = o.lhs;
     let Lhs::Node(m) = lhs else {
         return o;
@@ -274,8 +310,15 @@ fn additive_expression(text: &[u8], toks: &[u32], events: &mut [u32], p: Parser)
     }
 }
 
+fn additive_expression(text: &[u8], toks: &[u32], events: &mut [u32], p: Parser) -> Operand
+    ensures { λ r. ⌜ ReadOperand (input (now (text .entry)) (now (toks .entry))) (p .left) G.sum p (now (events .entry)) r (now (events .exit)) ⌝ }
+{
+    let o = multiplicative_expression(text, toks, events, p);
+    terms(text, toks, events, o)
+}
+
 // `delta` and a sum, if `delta` stands.
-fn delta_value(text: &[u8], toks: &[u32], events: &mut [u32], p: Parser) -> Parser
+fn delta(text: &[u8], toks: &[u32], events: &mut [u32], p: Parser) -> Parser
     ensures { λ r. ⌜ ((c : Choice) → Read (input (now (text .entry)) (now (toks .entry))) (p .left) (opt c G.delta-value) p (now (events .entry)) r (now (events .exit))) ⌝ }
 {
     if at(text, toks, p, DELTA_KW) {
@@ -288,23 +331,44 @@ fn delta_value(text: &[u8], toks: &[u32], events: &mut [u32], p: Parser) -> Pars
     p
 }
 
-// A sum, or a range of two sums.
-pub fn property_expression(text: &[u8], toks: &[u32], events: &mut [u32], p: Parser) -> Parser
-    ensures { λ r. ⌜ Read (input (now (text .entry)) (now (toks .entry))) (p .left) G.expression p (now (events .entry)) r (now (events .exit)) ⌝ }
+// `..` and a sum behind a sum, with what may follow.
+fn range(text: &[u8], toks: &[u32], events: &mut [u32], o: Operand) -> Parser
+    ensures { λ r. ⌜ ToRange (input (now (text .entry)) (now (toks .entry))) o (now (events .entry)) r (now (events .exit)) ⌝ }
 {
-    let o = additive_expression(text, toks, events, p);
     let p = o.p;
     let lhs = o.lhs;
     let Lhs::Node(m) = lhs else {
         return p;
     };
-    if at(text, toks, p, DOT_DOT) {
-        let s = precede(events, p, m);
-        let p = bump(text, toks, events, s.p, DOT_DOT);
-        let o = additive_expression(text, toks, events, p);
-        let p = delta_value(text, toks, events, o.p);
-        let c = complete(events, p, s.m, RANGE_VALUE);
-        return c.p;
+    let s = precede(events, p, m);
+    let p = bump(text, toks, events, s.p, DOT_DOT);
+    let o = additive_expression(text, toks, events, p);
+    let p = delta(text, toks, events, o.p);
+    let c = complete(events, p, s.m, RANGE_VALUE);
+    c.p
+}
+
+// What stands behind an operand, if anything: an expression.
+fn behind(text: &[u8], toks: &[u32], events: &mut [u32], o: Operand) -> Parser
+    ensures { λ r. ⌜ ToExpression (input (now (text .entry)) (now (toks .entry))) o (now (events .entry)) r (now (events .exit)) ⌝ }
+{
+    let o = factors(text, toks, events, o);
+    let o = terms(text, toks, events, o);
+    if at(text, toks, o.p, DOT_DOT) {
+        return range(text, toks, events, o);
     }
-    p
+    o.p
+}
+
+// A sum, or a range of two sums; an operand alone, in most cases.
+pub fn property_expression(text: &[u8], toks: &[u32], events: &mut [u32], p: Parser) -> Parser
+    ensures { λ r. ⌜ Read (input (now (text .entry)) (now (toks .entry))) (p .left) G.expression p (now (events .entry)) r (now (events .exit)) ⌝ }
+{
+    let left = p.left;
+    // a parser of its own: passed on as it came, p would be copied whole on the way in
+    let o = property_expression_primary(text, toks, events, with_left(p, left));
+    if at_operator(text, toks, o.p) {
+        return behind(text, toks, events, o);
+    }
+    o.p
 }

@@ -5,23 +5,23 @@ use native.Mathlib.Omega.{arith}
 use mathlib.Core.Path.{_≡_, refl, sym, ap, _∙_}
 use mathlib.Core.Bool.{Bool, true, false, not, cond, _&&_, _||_}
 use mathlib.Core.List.{List, [], _∷_}
-use lib.ListN.{length, getD, take, drop}
+use lib.ListN.{length, getD, take, drop, List·getD-eq-default}
 use lib.Seq.{drop-cons, getD-drop}
 use lib.Dec.{eqb, leb, ltb}
-use borrow.Author.Tests.{eq-eqb, eqb-true, not-true, le-leb, lt-ltb}
+use borrow.Author.Tests.{eq-eqb, eqb-true, not-true, le-leb, lt-ltb, leb-true, leb-false}
 use Rattle.predictive.proofs.Tests.{never, and-l, and-r, and-both}
 use Rattle.predictive.specs.Grammar.{stand}
 use Rattle.aadl.specs.declared.Token.{Token}
-use Rattle.aadl.specs.Kinds.{#_, WHITESPACE, COMMENT, FAT-ARROW, COLON-COLON}
+use Rattle.aadl.specs.Kinds.{#_, WHITESPACE, COMMENT, FAT-ARROW, COLON-COLON, DOT-DOT}
 use Rattle.aadl.specs.Words.{bytes, kind-of-word}
 use Rattle.aadl.specs.Bytes.{peek, is-whitespace, is-digit, is-ident-start, is-ident-continue, not-lf, run, run-end}
-use Rattle.aadl.specs.Tokens.{token, word-of, marks, longest-mark, mark-of, token-of}
+use Rattle.aadl.specs.Tokens.{token, number-of, word-of, marks, longest-mark, mark-of, token-of}
 use Rattle.aadl.proofs.RunLaws.{run-more, run-rest}
 use Rattle.aadl.proofs.Bools.{below, below-at}
 use Rattle.runs.specs.Classes.{no-longer, class-of, class-table}
 use Rattle.runs.proofs.ClassTable.{class-at}
 
-or-implied : (a b : Bool) → a ≡ true → (not a || b) ≡ true → b ≡ true
+pub or-implied : (a b : Bool) → a ≡ true → (not a || b) ≡ true → b ≡ true
 or-implied true b e t = t
 or-implied false b e t = never e
 
@@ -49,6 +49,10 @@ module _ (s : List ℕ) (i : ℕ) (h : i < length s) (l : getD s i 0 < 256) wher
   unfolding marks
   white-run e = run-on 1 is-whitespace refl e
 
+  pub digit-run : getD class-table (getD s i 0) 0 ≡ 60 → run-end is-digit s (i + 1) ≡ run-end is-digit s i
+  unfolding marks
+  digit-run e = run-on 60 is-digit refl e
+
   pub word-token : getD class-table (getD s i 0) 0 ≡ 61 → word-of (drop i s) ≡ token-of (drop i s)
   unfolding token-of marks
   word-token e =
@@ -62,6 +66,15 @@ module _ (s : List ℕ) (i : ℕ) (h : i < length s) (l : getD s i 0 < 256) wher
   pub white-token : getD class-table (getD s i 0) 0 ≡ 1 → token (# WHITESPACE) (run is-whitespace (drop i s)) ≡ token-of (drop i s)
   unfolding token-of marks
   white-token e = rw (of-class 1 is-whitespace refl e) refl
+
+  pub number-is : getD class-table (getD s i 0) 0 ≡ 60 → token (number-of (drop i s) .kind) (number-of (drop i s) .len) ≡ token-of (drop i s)
+  unfolding token-of marks
+  number-is e =
+      let b = peek (drop i s) 0 in
+      let w = not-true (is-whitespace b) (of-class 60 (λ (b : ℕ). not (is-whitespace b)) refl e) in
+      let m = not-true (eqb b 45) (of-class 60 (λ (b : ℕ). not (eqb b 45)) refl e) in
+      let q = not-true (eqb b 34) (of-class 60 (λ (b : ℕ). not (eqb b 34)) refl e) in
+      rw (w, m, q, of-class 60 is-digit refl e) refl
 
 -- MARKS ----------------------------------------------------------------------------------------------------------------
 
@@ -90,6 +103,25 @@ first-two s i c x y h e t =
     let first : peek (drop i s) 0 ≡ b = ap (λ (bs : List ℕ). getD bs 0 0) (drop-cons s i 0 h) in
     (first ∙ eqb-true b x (and-l (eqb b x) (eqb c y) t), getD-drop i s 1 0 ∙ sym e ∙ eqb-true c y (and-r (eqb b x) (eqb c y) t))
 
+-- .. which stands within the text, where it is no 0
+pub within-two : (s : List ℕ) (i c x y : ℕ) → i < length s → c ≡ getD s (i + 1) 0 → (eqb (getD s i 0) (suc x) && eqb c (suc y)) ≡ true → i + 2 ≤ length s
+within-two s i c x y h e t = go (leb (length s) (i + 1)) refl
+  where
+    two : c ≡ suc y
+    two = eqb-true c (suc y) (and-r (eqb (getD s i 0) (suc x)) (eqb c (suc y)) t)
+
+    go : (b : Bool) → leb (length s) (i + 1) ≡ b → i + 2 ≤ length s
+    go false g = omega (arith, leb-false (length s) (i + 1) g)
+    go true g = let z : ⊥ = omega (arith, two, e ∙ List·getD-eq-default s 0 (leb-true (length s) (i + 1) g)) in absurd z
+
+-- a comment's line goes on behind its `--`
+pub comment-run : (s : List ℕ) (i c : ℕ) → i < length s → c ≡ getD s (i + 1) 0 → (eqb (getD s i 0) 45 && eqb c 45) ≡ true → run-end not-lf s (i + 2) ≡ run-end not-lf s i
+comment-run s i c h e t =
+    let l = within-two s i c 44 44 h e t in
+    let first = eqb-true (getD s i 0) 45 (and-l (eqb (getD s i 0) 45) (eqb c 45) t) in
+    let second = sym e ∙ eqb-true c 45 (and-r (eqb (getD s i 0) 45) (eqb c 45) t) in
+    ap (run-end not-lf s) (omega arith) ∙ sym (run-more not-lf s (i + 1) (omega (arith, l)) (ap not-lf second)) ∙ sym (run-more not-lf s i h (ap not-lf first))
+
 pub comment-token : (bs : List ℕ) → peek bs 0 ≡ 45 → peek bs 1 ≡ 45 → token (# COMMENT) (run not-lf bs) ≡ token-of bs
 unfolding token-of
 comment-token bs e f =
@@ -106,7 +138,7 @@ word-is s i e k q r =
 
 -- a byte that is a mark by its class
 abbrev marked : ℕ → Bool
-marked b = leb 5 (class-of b) && ltb (class-of b) 60
+marked b = leb 5 (class-of b) && ltb (class-of b) 30
 
 -- what all such bytes have, by a test of each byte
 of-marked : (g : ℕ → Bool) → below (λ (b : ℕ). not (marked b) || g b) 256 ≡ true → (b : ℕ) → b < 256 → marked b ≡ true → g b ≡ true
@@ -133,7 +165,7 @@ token-is-mark b bs e =
       not-true (is-ident-start b) (and-r (not (is-digit b)) (not (is-ident-start b)) z'),
     ) refl
 
-mark-is : (bs : List ℕ) (t : Token) → longest-mark 5 marks bs ≡ t → t .len ≡ 1 → mark-of bs ≡ t
+pub mark-is : (bs : List ℕ) (t : Token) → longest-mark 5 marks bs ≡ t → t .len ≡ 1 → mark-of bs ≡ t
 unfolding mark-of
 mark-is bs t e o = rw (e, o) refl
 
@@ -148,14 +180,14 @@ mark-alone b bs l m =
     ∙ mark-is (b ∷ bs) t (longest-alone 5 marks b bs (of-marked (no-longer marks) refl b l m)) o
     ∙ (λ j. token (k j) (o j))
 
-pub lone-mark-token : (s : List ℕ) (i k : ℕ) → i < length s → getD s i 0 < 256 → getD class-table (getD s i 0) 0 ≡ k → 5 ≤ k → k < 60 → token k 1 ≡ token-of (drop i s)
+pub lone-mark-token : (s : List ℕ) (i k : ℕ) → i < length s → getD s i 0 < 256 → getD class-table (getD s i 0) 0 ≡ k → 5 ≤ k → k < 30 → token k 1 ≡ token-of (drop i s)
 lone-mark-token s i k h l e big small =
     let b = getD s i 0 in
     let c : class-of b ≡ k = sym (class-at b l) ∙ e in
-    let m : marked b ≡ true = and-both (leb 5 (class-of b)) (ltb (class-of b) 60) (le-leb 5 (class-of b) (omega arith)) (lt-ltb (class-of b) 60 (omega arith)) in
+    let m : marked b ≡ true = and-both (leb 5 (class-of b)) (ltb (class-of b) 30) (le-leb 5 (class-of b) (omega arith)) (lt-ltb (class-of b) 30 (omega arith)) in
     ap (λ (n : ℕ). token n 1) (sym c) ∙ sym (mark-alone b (drop (suc i) s) l m) ∙ ap token-of (sym (drop-cons s i 0 h))
 
--- `=>` and `::`
+-- `=>`, `::` and `..`
 two-bytes : (bs : List ℕ) (x y : ℕ) → peek bs 0 ≡ suc x → peek bs 1 ≡ suc y → bs ≡ suc x ∷ suc y ∷ drop 2 bs
 two-bytes [] x y e f = absurd (omega arith)
 two-bytes (b ∷ []) x y e f = absurd (omega arith)
@@ -168,3 +200,7 @@ fat-arrow-token bs e f = ap token-of (sym (two-bytes bs 60 61 e f))
 pub colon-colon-token : (bs : List ℕ) → peek bs 0 ≡ 58 → peek bs 1 ≡ 58 → token (# COLON-COLON) 2 ≡ token-of bs
 unfolding token-of mark-of marks
 colon-colon-token bs e f = ap token-of (sym (two-bytes bs 57 57 e f))
+
+pub dot-dot-token : (bs : List ℕ) → peek bs 0 ≡ 46 → peek bs 1 ≡ 46 → token (# DOT-DOT) 2 ≡ token-of bs
+unfolding token-of mark-of marks
+dot-dot-token bs e f = ap token-of (sym (two-bytes bs 45 45 e f))

@@ -10,22 +10,26 @@ use keywords::SLOTS;
 use keywords::STARTS;
 use keywords::keyword;
 use runs::CLASSES;
+use runs::digit_end;
 use runs::next_byte;
 use runs::skip_ascii;
 use runs::white_end;
 use runs::word_end;
+use scan::scan_number_from;
 use scan::scan_sequence;
 use scan::scan_token;
 use syntax_kind::COLON_COLON;
 use syntax_kind::COMMENT;
+use syntax_kind::DOT_DOT;
 use syntax_kind::FAT_ARROW;
+use syntax_kind::INTEGER_LIT;
 use syntax_kind::STRING_LIT;
 use syntax_kind::WHITESPACE;
 use syntax_kind::wide;
 use syntax_kind::wide32;
 ghost use mathlib.Core.Path.{_≡_};
 ghost use Prim.Native.Nat.{ℕ, _+_, _≤_, _<_, min};
-ghost use lib.ListN.{length, take, drop, replicate};
+ghost use lib.ListN.{length, getD, take, drop, replicate};
 ghost use Rattle.aadl.specs.Limits.{base};
 ghost use Rattle.aadl.specs.Utf8.{ill-formed};
 ghost use Rattle.aadl.specs.Tokens.{total, token-text, token-of};
@@ -41,9 +45,25 @@ pub struct Filled {
     pub count: usize,
 }
 
-// The token that begins at a place: comments, `=>`, `::` and strings without a quote in them by their first bytes, any other by the
-// plain scanner.
-fn scan_other(s: &[u8], at: usize) -> Token
+// The token that begins at a place: a string without a quote in it by its next quote, any other by the plain scanner.
+fn scan_quoted(s: &[u8], at: usize) -> Token
+    requires { ⌜ at < length (now s) ⌝ }
+    ensures { λ r. ⌜ r ≡ token-of (drop at (now (s .entry))) ⌝ }
+{
+    if s[at] == b'"' {
+        let e = next_byte(s, at + 1, b'"');
+        if (e < s.len()) & !(peek(s, e + 1) == b'"') {
+            return Token {
+                kind: STRING_LIT,
+                len: e + 1 - at,
+            };
+        }
+    }
+    scan_token(&s[at..])
+}
+
+// The token that begins at a place: comments, `=>`, `::` and `..` by their first two bytes.
+fn scan_pair(s: &[u8], at: usize) -> Token
     requires { ⌜ at < length (now s) ⌝ }
     ensures { λ r. ⌜ r ≡ token-of (drop at (now (s .entry))) ⌝ }
 {
@@ -52,7 +72,7 @@ fn scan_other(s: &[u8], at: usize) -> Token
     if (b == b'-') & (c == b'-') {
         return Token {
             kind: COMMENT,
-            len: next_byte(s, at, b'\n') - at,
+            len: next_byte(s, at + 2, b'\n') - at,
         };
     }
     if (b == b'=') & (c == b'>') {
@@ -67,19 +87,50 @@ fn scan_other(s: &[u8], at: usize) -> Token
             len: 2,
         };
     }
-    if b == b'"' {
-        let e = next_byte(s, at + 1, b'"');
-        if (e < s.len()) & !(peek(s, e + 1) == b'"') {
+    if (b == b'.') & (c == b'.') {
+        return Token {
+            kind: DOT_DOT,
+            len: 2,
+        };
+    }
+    scan_quoted(s, at)
+}
+
+// The token that begins with the byte of class k at a place: a mark that others begin with, before whitespace or a word, is that mark.
+fn scan_other(s: &[u8], at: usize, k: u8, classes: &[u8; 256]) -> Token
+    requires { ⌜ (at < length (now s)) × (now classes ≡ class-table) × (k ≡ getD class-table (getD (now s) at 0) 0) ⌝ }
+    ensures { λ r. ⌜ r ≡ token-of (drop at (now (s .entry))) ⌝ }
+{
+    if (30 <= k) & (k < 60) {
+        let c = classes[wide(peek(s, at + 1))];
+        if (c == 1) | (60 <= c) {
             return Token {
-                kind: STRING_LIT,
-                len: e + 1 - at,
+                kind: wide32(k) - 30,
+                len: 1,
             };
         }
     }
-    scan_token(&s[at..])
+    scan_pair(s, at)
 }
 
-// The token that begins at a place: words, whitespace and marks that no other mark begins with by the lent tables.
+// The number that begins at a place: digits behind which no letter, digit, `_`, `#` or `.` stands; any other by the plain scanner.
+fn scan_digits(s: &[u8], at: usize, classes: &[u8; 256]) -> Token
+    requires { ⌜ (at < length (now s)) × (now classes ≡ class-table) × (getD class-table (getD (now s) at 0) 0 ≡ 60) ⌝ }
+    ensures { λ r. ⌜ r ≡ token-of (drop at (now (s .entry))) ⌝ }
+{
+    let e = digit_end(s, at + 1, classes);
+    let c = peek(s, e);
+    if (classes[wide(c)] < 60) & !(c == b'#') & !(c == b'.') {
+        return Token {
+            kind: INTEGER_LIT,
+            len: e - at,
+        };
+    }
+    scan_number_from(&s[at..], e - at)
+}
+
+// The token that begins at a place, by the class of its first byte: words, whitespace and marks that no other mark begins with by the
+// lent tables.
 fn scan_at(
     s: &[u8],
     at: usize,
@@ -107,13 +158,16 @@ fn scan_at(
             len: white_end(s, at + 1, classes) - at,
         };
     }
-    if (5 <= k) & (k < 60) {
+    if (5 <= k) & (k < 30) {
         return Token {
             kind: wide32(k),
             len: 1,
         };
     }
-    scan_other(s, at)
+    if k == 60 {
+        return scan_digits(s, at, classes);
+    }
+    scan_other(s, at, k, classes)
 }
 
 // Where the first ill-formed sequence starts, or the length.

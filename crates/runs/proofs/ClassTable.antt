@@ -7,7 +7,7 @@ use mathlib.Core.List.{List}
 use lib.ListN.{getD}
 use lib.Dec.{leb, eqb}
 use Rattle.predictive.proofs.Tests.{never}
-use Rattle.aadl.specs.Bytes.{is-ident-continue, is-whitespace}
+use Rattle.aadl.specs.Bytes.{is-ident-continue, is-whitespace, is-digit}
 use Rattle.aadl.specs.Tokens.{marks}
 use Rattle.aadl.proofs.Bools.{below, below-at}
 use Rattle.runs.specs.Classes.{tabled, class-of, class-table}
@@ -40,3 +40,8 @@ pub white-class : (b : ℕ) → b < 256 → eqb (getD class-table b 0) 1 ≡ is-
 unfolding marks
 white-class b h =
     ap (λ (k : ℕ). eqb k 1) (class-at b h) ∙ beq-true _ _ (below-at (λ (b : ℕ). Bool·beq (eqb (class-of b) 1) (is-whitespace b)) 256 refl b h)
+
+pub digit-class : (b : ℕ) → b < 256 → eqb (getD class-table b 0) 60 ≡ is-digit b
+unfolding marks
+digit-class b h =
+    ap (λ (k : ℕ). eqb k 60) (class-at b h) ∙ beq-true _ _ (below-at (λ (b : ℕ). Bool·beq (eqb (class-of b) 60) (is-digit b)) 256 refl b h)

@@ -1,5 +1,5 @@
 -- The table of byte classes, as a function of aadl's classes, and bytes of a range. Assumes nothing.
-use Prim.Native.Nat.{ℕ, zero, suc}
+use Prim.Native.Nat.{ℕ, zero, suc, _+_}
 use Prim.Native.String.{String}
 use mathlib.Core.Bool.{Bool, true, false, not, cond, _&&_, _||_}
 use mathlib.Core.List.{List, [], _∷_}
@@ -10,7 +10,7 @@ use Rattle.aadl.specs.declared.Token.{Token}
 use Rattle.aadl.specs.Words.{bytes}
 use Rattle.aadl.specs.Bytes.{is-whitespace, is-ident-start, is-ident-continue, is-digit}
 use Rattle.runs.specs.declared.Run.{Run}
-use Rattle.runs.specs.declared.Run.the-variants.{Word, White}
+use Rattle.runs.specs.declared.Run.the-variants.{Word, White, Digit}
 use Rattle.aadl.specs.Tokens.{marks, longest-mark}
 
 -- The values of a function at n numbers, from k on.
@@ -23,13 +23,15 @@ abbrev pub no-longer : List String → ℕ → Bool
 no-longer [] b = true
 no-longer (m ∷ ms) b = not (stand (take 1 (bytes m)) (b ∷ []) && leb 2 (length (bytes m))) && no-longer ms b
 
--- The kind of the mark that is this byte, where no longer one begins with it; else 0.
-abbrev pub lone-mark : ℕ → ℕ
-lone-mark b = cond (no-longer marks b) (longest-mark 5 marks (b ∷ []) .kind) 0
+-- The mark that is this byte: its kind where no longer mark begins with it, 30 more where one does; 0 where there is none.
+abbrev pub mark-class : ℕ → ℕ
+mark-class b =
+    let k = longest-mark 5 marks (b ∷ []) .kind in
+    cond (eqb k 0) 0 (cond (no-longer marks b) k (30 + k))
 
--- whitespace 1, digits 60, letters and `_` 61, a lone mark its kind
+-- whitespace 1, digits 60, letters and `_` 61, a mark by its kind
 abbrev pub class-of : ℕ → ℕ
-class-of b = cond (is-whitespace b) 1 (cond (is-ident-start b) 61 (cond (is-digit b) 60 (lone-mark b)))
+class-of b = cond (is-whitespace b) 1 (cond (is-ident-start b) 61 (cond (is-digit b) 60 (mark-class b)))
 
 unfoldable pub class-table : List ℕ
 class-table = tabled class-of 0 256
@@ -38,6 +40,7 @@ class-table = tabled class-of 0 256
 abbrev pub in-run : Run → ℕ → Bool
 in-run Word b = is-ident-continue b
 in-run White b = is-whitespace b
+in-run Digit b = is-digit b
 
 abbrev pub any : (ℕ → Bool) → List ℕ → Bool
 any p [] = false

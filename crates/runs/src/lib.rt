@@ -5,10 +5,11 @@ use syntax_kind::wide;
 ghost use mathlib.Core.Path.{_≡_};
 ghost use Prim.Native.Nat.{_≤_, _<_};
 ghost use lib.ListN.{length};
-ghost use Rattle.aadl.specs.Bytes.{is-whitespace, is-ident-continue, run-end};
+ghost use Rattle.aadl.specs.Bytes.{is-whitespace, is-ident-continue, is-digit, run-end};
 ghost use Rattle.runs.specs.Classes.{class-table, in-run, any, sought, unsought, other-than};
 
-// Whitespace 1, digits 60, letters and `_` 61, a mark that no other mark begins with its kind (5 to 27), any other byte 0.
+// Whitespace 1, digits 60, letters and `_` 61, a mark that no other mark begins with its kind (5 to 27), one that others begin with 30
+// more, any other byte 0.
 pub const CLASSES: [u8; 256] = [
     0,
     0,
@@ -52,11 +53,11 @@ pub const CLASSES: [u8; 256] = [
     0,
     10,
     11,
-    0,
-    0,
+    52,
+    50,
     7,
-    0,
-    0,
+    51,
+    38,
     23,
     60,
     60,
@@ -68,7 +69,7 @@ pub const CLASSES: [u8; 256] = [
     60,
     60,
     60,
-    0,
+    36,
     5,
     0,
     0,
@@ -103,37 +104,37 @@ pub const CLASSES: [u8; 256] = [
     61,
     14,
     0,
-    0,
-    0,
-    61,
+    45,
     0,
     61,
-    61,
-    61,
-    61,
-    61,
-    61,
-    61,
-    61,
-    61,
-    61,
-    61,
-    61,
-    61,
-    61,
-    61,
-    61,
-    61,
-    61,
-    61,
-    61,
-    61,
-    61,
-    61,
-    61,
-    61,
-    61,
     0,
+    61,
+    61,
+    61,
+    61,
+    61,
+    61,
+    61,
+    61,
+    61,
+    61,
+    61,
+    61,
+    61,
+    61,
+    61,
+    61,
+    61,
+    61,
+    61,
+    61,
+    61,
+    61,
+    61,
+    61,
+    61,
+    61,
+    42,
     0,
     13,
     0,
@@ -272,6 +273,7 @@ pub const CLASSES: [u8; 256] = [
 enum Run {
     Word,
     White,
+    Digit,
 }
 
 // Whether a byte goes on with a run.
@@ -283,6 +285,7 @@ fn goes_on(b: u8, run: Run, classes: &[u8; 256]) -> bool
     match run {
         Run::Word => 60 <= k,
         Run::White => k == 1,
+        Run::Digit => k == 60,
     }
 }
 
@@ -315,6 +318,14 @@ pub fn white_end(s: &[u8], from: usize, classes: &[u8; 256]) -> usize
     ensures { λ r. ⌜ (r ≡ run-end is-whitespace (now (s .entry)) from) × (r ≤ length (now (s .entry))) ⌝ }
 {
     end_of(s, from, Run::White, classes)
+}
+
+// The end of the digits that begin at a place.
+pub fn digit_end(s: &[u8], from: usize, classes: &[u8; 256]) -> usize
+    requires { ⌜ (from ≤ length (now s)) × (now classes ≡ class-table) ⌝ }
+    ensures { λ r. ⌜ (r ≡ run-end is-digit (now (s .entry)) from) × (r ≤ length (now (s .entry))) ⌝ }
+{
+    end_of(s, from, Run::Digit, classes)
 }
 
 // Whether a byte is one of a range.
@@ -357,6 +368,11 @@ fn next_between(s: &[u8], from: usize, least: u8, most: u8) -> usize
     requires { ⌜ from ≤ length (now s) ⌝ }
     ensures { λ r. ⌜ (r ≡ run-end (unsought least most) (now (s .entry)) from) × (r ≤ length (now (s .entry))) ⌝ }
 {
+    if from < s.len() {
+        if between(s[from], least, most) {
+            return from;
+        }
+    }
     let mut i = skip_chunks(s, from, least, most);
     while i < s.len() {
         if between(s[i], least, most) {

@@ -158,7 +158,7 @@ fn scan_based(s: &[u8], i: usize) -> Token
 }
 
 // A number that begins with d decimal digits: the first case that fits.
-fn scan_number_from(s: &[u8], d: usize) -> Token
+pub fn scan_number_from(s: &[u8], d: usize) -> Token
     requires { ⌜ d ≤ length (now s) ⌝ }
     ensures { λ r. ⌜ r ≡ number-token (number-from (now (s .entry)) d) ⌝ }
 {

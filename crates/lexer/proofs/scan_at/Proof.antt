@@ -67,9 +67,19 @@ mark c =
     let l : getD s at 0 < 256 = omega (arith, c .before .before .before .before .before .before .before .shared-slice-known .given at) in
     let k = getD (q .args .classes .now) (c .before .before .before .before .before .wide .result) 0 in
     let e : getD class-table (getD s at 0) 0 ≡ k = λ j. getD (sym (q .pre .1) j) (sym (c .before .before .before .before .before .wide .ensures) j) 0 in
-    let big = leb-true 5 k (and-l (leb 5 k) (ltb k 60) (c .before .if3 .taken)) in
-    let small = ltb-true k 60 (and-r (leb 5 k) (ltb k 60) (c .before .if3 .taken)) in
+    let big = leb-true 5 k (and-l (leb 5 k) (ltb k 30) (c .before .if3 .taken)) in
+    let small = ltb-true k 30 (and-r (leb 5 k) (ltb k 30) (c .before .if3 .taken)) in
     ap (λ (n : ℕ). token n 1) (c .wide32 .ensures) ∙ lone-mark-token s at k (q .pre .0) l e big small
+
+digits : tie.Need-scan-digits-requires
+digits c κs =
+    let q = c .before .before .before .before .before .before .before .before in
+    (q .pre .0, q .pre .1, (λ j. getD (sym (q .pre .1) j) (sym (c .before .before .before .before .before .wide .ensures) j) 0) ∙ c .if4 .taken)
+
+other : tie.Need-scan-other-requires
+other c κs =
+    let q = c .before .before .before .before .before .before .before .before in
+    (q .pre .0, q .pre .1, λ j. getD (q .pre .1 j) (c .before .before .before .before .before .wide .ensures j) 0)
 
 pub scan-at-spec : {M : Type 1} → statement M
 scan-at-spec =
@@ -92,5 +102,7 @@ scan-at-spec =
     white
     (λ c κs. tt)
     mark
-    (λ c κs. search needs)
+    digits
+    (λ c. search needs)
+    other
     (λ c. search needs))

@@ -1,4 +1,4 @@
--- One byte at a turn, from where the chunks end: the run from `i` on ends where the run from `from` on ends. The measure is what is left
+-- At once, or one byte at a turn from where the chunks end: the run from `i` on ends where the run from `from` on ends. The measure is what is left
 -- of the text. Assumes nothing.
 use Prim.Native.Nat.{_≤_, _-_}
 use mathlib.Core.Path.{_≡_, sym, ap, _∙_}
@@ -19,19 +19,24 @@ abbrev μ-loop : tie.MeasureT-loop
 
 returns : tie.Need-returns Inv-loop μ-loop
 returns c =
-    let a = c .before .before .before .before .before .before .before .args in
-    let l = c .before .before .before .before .loop in
-    (sym (run-stop (unsought (a .least) (a .most)) (a .s .now) (l .i) (search needs) (ap not (sym (c .before .between .ensures) ∙ c .if1 .taken))) ∙ l .inv .0, search needs)
-
-loop-again : tie.Need-loop-again Inv-loop μ-loop
-loop-again c =
-    let a = c .before .before .before .before .before .before .before .args in
-    let l = c .before .before .before .before .loop in
-    (sym (run-more (unsought (a .least) (a .most)) (a .s .now) (l .i) (search needs) (ap not (sym (c .before .between .ensures) ∙ c .if1 .left))) ∙ l .inv .0, search needs)
+    let a = c .before .before .before .before .before .args in
+    (sym (run-stop (unsought (a .least) (a .most)) (a .s .now) (a .from) (search needs) (ap not (sym (c .before .between .ensures) ∙ c .if2 .taken))), search needs)
 
 returns-2 : tie.Need-returns-2 Inv-loop μ-loop
 returns-2 c =
-    let a = c .before .before .before .before .args in
+    let a = c .before .before .before .before .before .before .before .before .args in
+    let l = c .before .before .before .before .loop in
+    (sym (run-stop (unsought (a .least) (a .most)) (a .s .now) (l .i) (search needs) (ap not (sym (c .before .between2 .ensures) ∙ c .if3 .taken))) ∙ l .inv .0, search needs)
+
+loop-again : tie.Need-loop-again Inv-loop μ-loop
+loop-again c =
+    let a = c .before .before .before .before .before .before .before .before .args in
+    let l = c .before .before .before .before .loop in
+    (sym (run-more (unsought (a .least) (a .most)) (a .s .now) (l .i) (search needs) (ap not (sym (c .before .between2 .ensures) ∙ c .if3 .left))) ∙ l .inv .0, search needs)
+
+returns-3 : tie.Need-returns-3 Inv-loop μ-loop
+returns-3 c =
+    let a = c .before .before .before .before .before .args in
     let l = c .before .loop in
     (sym (run-over (unsought (a .least) (a .most)) (a .s .now) (l .i) (search needs)) ∙ l .inv .0, search needs)
 
@@ -41,12 +46,15 @@ next-between-spec =
     (tie.spec
     Inv-loop
     μ-loop
+    (λ c. search needs)
+    (λ c κs. tt)
+    returns
     (λ c κs. search needs)
     (λ c. c .skip-chunks .ensures)
     (λ c. search needs)
     (λ c κs. tt)
-    returns
+    returns-2
     (λ c. search needs)
     (λ c. search needs)
     loop-again
-    returns-2)
+    returns-3)

@@ -1,0 +1,62 @@
+//! The proved functions, each behind a safe one. A slice goes as a pointer and a length; what the functions owe is proved, for every
+//! length and all contents (crates/capi/src/lib.rt).
+
+#[link(name = "capi", kind = "static")]
+extern "C" {
+    fn gigboda_property_section(
+        text: *const u8,
+        text_len: usize,
+        tokens: *mut u32,
+        tokens_len: usize,
+        events: *mut u32,
+        events_len: usize,
+        answer: *mut usize,
+        answer_len: usize,
+    );
+    fn gigboda_tokenize(text: *const u8, text_len: usize, tokens: *mut u32, tokens_len: usize, answer: *mut usize, answer_len: usize);
+    fn gigboda_token_text(
+        text: *const u8,
+        text_len: usize,
+        words: *const u32,
+        words_len: usize,
+        number: usize,
+        part: *mut usize,
+        part_len: usize,
+    );
+}
+
+/// Number, place, tokens, taken, events.
+pub type Answer = [usize; 5];
+
+pub fn section(text: &[u8], tokens: &mut [u32], events: &mut [u32]) -> Answer {
+    let mut answer = [0; 5];
+    // Each pointer comes with its own slice's length, and the slices do not overlap.
+    unsafe {
+        gigboda_property_section(
+            text.as_ptr(),
+            text.len(),
+            tokens.as_mut_ptr(),
+            tokens.len(),
+            events.as_mut_ptr(),
+            events.len(),
+            answer.as_mut_ptr(),
+            answer.len(),
+        )
+    }
+    answer
+}
+
+pub fn tokens(text: &[u8], tokens: &mut [u32]) -> Answer {
+    let mut answer = [0; 5];
+    // As above.
+    unsafe { gigboda_tokenize(text.as_ptr(), text.len(), tokens.as_mut_ptr(), tokens.len(), answer.as_mut_ptr(), answer.len()) }
+    answer
+}
+
+/// Start and length.
+pub fn token_part(text: &[u8], words: &[u32], number: usize) -> [usize; 2] {
+    let mut part = [0; 2];
+    // As above.
+    unsafe { gigboda_token_text(text.as_ptr(), text.len(), words.as_ptr(), words.len(), number, part.as_mut_ptr(), part.len()) }
+    part
+}

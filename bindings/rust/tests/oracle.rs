@@ -1,0 +1,221 @@
+//! The safe functions and the tree against the given Rust, on texts of tools/compare. Built only where the Rust's sources are at hand
+//! (tools/bindings-test).
+#![cfg(oracle)]
+#[path = "../../../tools/compare/every.rs"]
+#[allow(dead_code)]
+mod every;
+#[path = "../../../tools/compare/families.rs"]
+#[allow(dead_code)]
+mod families;
+#[path = "../../../tools/compare/random.rs"]
+mod random;
+#[path = "../../../tools/compare/sections.rs"]
+#[allow(dead_code)]
+mod sections;
+#[path = "../../../tools/compare/texts.rs"]
+#[allow(dead_code)]
+mod texts;
+#[path = "../../../tools/compare/words.rs"]
+#[allow(dead_code)]
+mod words;
+
+use families::{Family, Maker};
+use gigboda::{property_section, tokenize, Event, Node, Refusal, Section};
+use random::Rng;
+use spar::event::Event as Theirs;
+use spar::syntax_kind::SyntaxKind;
+
+/// Texts of each family that makes them at random, and of each that gives every one of its texts.
+const OF_EACH: usize = 3_000;
+
+/// A tree: a node's kind and what it holds, a token's kind and text, or a message.
+#[derive(Debug, PartialEq)]
+enum Tree {
+    Node(u16, Vec<Tree>),
+    Token(u16, String),
+    Error(String),
+}
+
+/// Puts trees together as their parts come, the innermost open node last.
+struct Builder(Vec<(u16, Vec<Tree>)>);
+
+impl Builder {
+    fn new() -> Builder {
+        Builder(vec![(0, Vec::new())])
+    }
+
+    fn enter(&mut self, kind: u16) {
+        self.0.push((kind, Vec::new()));
+    }
+
+    fn add(&mut self, tree: Tree) {
+        self.0.last_mut().expect("one is open").1.push(tree);
+    }
+
+    fn leave(&mut self) {
+        let (kind, inside) = self.0.pop().expect("one is open");
+        self.add(Tree::Node(kind, inside));
+    }
+
+    fn done(mut self) -> Vec<Tree> {
+        assert_eq!(self.0.len(), 1, "a node that does not end");
+        self.0.pop().expect("the whole").1
+    }
+}
+
+/// The Rust's name of a kind that a message can miss.
+fn missing(number: u16) -> String {
+    use SyntaxKind::*;
+    let kinds = [APPLIES_KW, BINDING_KW, FAT_ARROW, L_PAREN, MODES_KW, R_BRACKET, R_PAREN, SEMICOLON, TO_KW];
+    let kind = kinds.iter().find(|kind| **kind as u16 == number);
+    format!("{:?}", kind.unwrap_or_else(|| panic!("no message misses kind {number}")))
+}
+
+/// A message in the Rust's words.
+fn message(number: u16) -> String {
+    let fixed = [
+        "expected `=>` or `+=>`",
+        "expected property name after `::`",
+        "expected property name",
+        "C-style radix literal is not valid AADL; use based notation, e.g. `16#…#` for hexadecimal",
+        "expected property expression",
+        "expected identifier after `::`",
+        "expected implementation name after `.`",
+        "expected `bus` or `processor` after `virtual`",
+    ];
+    match number {
+        256.. => format!("expected {}", missing(number - 256)),
+        _ => fixed[usize::from(number) - 1].to_string(),
+    }
+}
+
+fn our_tree(section: &Section, text: &str) -> Vec<Tree> {
+    let mut tree = Builder::new();
+    for node in section.nodes() {
+        match node {
+            Node::Enter(kind) => tree.enter(kind.into()),
+            Node::Token(kind, range) => tree.add(Tree::Token(kind.into(), text[range].to_string())),
+            Node::Leave => tree.leave(),
+            Node::Error(number) => tree.add(Tree::Error(message(number))),
+        }
+    }
+    tree.done()
+}
+
+/// The kinds of a Start and of the Starts that its chain points to, innermost first. Each is taken out of the list.
+fn chain(events: &mut [Theirs], start: usize) -> Vec<SyntaxKind> {
+    let mut kinds = Vec::new();
+    let mut at = start;
+    loop {
+        match std::mem::replace(&mut events[at], Theirs::Tombstone) {
+            Theirs::Start { kind, forward_parent } => {
+                kinds.push(kind);
+                match forward_parent {
+                    Some(distance) => at += distance as usize,
+                    None => return kinds,
+                }
+            }
+            other => panic!("a forward parent that is {other:?}"),
+        }
+    }
+}
+
+/// The tree of the Rust's events, by the rule of parsers of its sort.
+fn their_tree(mut events: Vec<Theirs>, mut texts: impl Iterator<Item = String>) -> Vec<Tree> {
+    let mut tree = Builder::new();
+    for at in 0..events.len() {
+        match events[at].clone() {
+            Theirs::Start { .. } => chain(&mut events, at).iter().rev().for_each(|kind| tree.enter(*kind as u16)),
+            Theirs::Token { kind, .. } => tree.add(Tree::Token(kind as u16, texts.next().expect("a token"))),
+            Theirs::Finish => tree.leave(),
+            Theirs::Error { msg } => tree.add(Tree::Error(msg)),
+            Theirs::Tombstone => {}
+        }
+    }
+    tree.done()
+}
+
+fn same_event(ours: Event, theirs: &Theirs) -> bool {
+    match (ours, theirs) {
+        (Event::Start { kind, forward_parent }, Theirs::Start { kind: k, forward_parent: f }) => {
+            u16::from(kind) == *k as u16 && forward_parent.map(u32::from) == *f
+        }
+        (Event::Token { kind }, Theirs::Token { kind: k, n_raw_tokens }) => u16::from(kind) == *k as u16 && *n_raw_tokens == 1,
+        (Event::Finish, Theirs::Finish) => true,
+        (Event::Error { message: m }, Theirs::Error { msg }) => message(m) == *msg,
+        _ => false,
+    }
+}
+
+/// Compares the tokens of a text with the Rust's.
+fn same_tokens(text: &str) {
+    let mut words = vec![0; text.len()];
+    let ours = tokenize(text.as_bytes(), &mut words).expect("not refused");
+    let theirs: Vec<u32> = spar::lexer::tokenize(text).iter().map(|(kind, len)| *kind as u32 * 65_536 + *len as u32).collect();
+    assert_eq!(ours, theirs, "{text:?}");
+}
+
+/// Compares the events and the tree of a text with the Rust's. False for a text that is refused where the Rust has no limit.
+fn same_section(text: &str) -> bool {
+    let (mut tokens, mut events) = (vec![0; text.len()], vec![0; gigboda::MOST_EVENTS]);
+    let section = match property_section(text.as_bytes(), &mut tokens, &mut events) {
+        Ok(section) => section,
+        Err(r) => {
+            assert!(matches!(r.refusal, Refusal::NoProperties | Refusal::NoEventWord | Refusal::TooDeep), "{r:?} {text:?}");
+            return false;
+        }
+    };
+    let all = spar::lexer::tokenize(text);
+    let mut parser = spar::parser::Parser::new(&all, text);
+    parser.run_property_section();
+    let theirs = parser.finish();
+    assert_eq!(section.events().count(), theirs.len(), "{text:?}");
+    assert!(section.events().zip(&theirs).all(|(o, t)| same_event(o, t)), "{text:?}");
+    let mut at = 0;
+    let parts = all.iter().map(|(kind, len)| {
+        at += len;
+        (kind.is_trivia(), text[at - len..at].to_string())
+    });
+    let leaves: Vec<String> = parts.filter(|p| !p.0).map(|p| p.1).collect();
+    assert_eq!(our_tree(&section, text), their_tree(theirs, leaves.into_iter()), "{text:?}");
+    true
+}
+
+/// Texts of all families in turn, those that are UTF-8 and not too long.
+fn texts_of(mut families: Vec<Family>, seed: u64) -> Vec<String> {
+    let mut rng = Rng::new(seed);
+    let mut all = Vec::new();
+    for family in &mut families {
+        for _ in 0..OF_EACH {
+            let text = match &mut family.maker {
+                Maker::Every(every) => every.next(),
+                Maker::Random(_, make) => Some(make(&mut rng)),
+            };
+            all.extend(text.and_then(|t| String::from_utf8(t).ok()).filter(|t| t.len() <= gigboda::MOST_BYTES));
+        }
+    }
+    all
+}
+
+/// The Rust's recursion has no bound, so it gets a large stack.
+fn with_stack(run: impl FnOnce() + Send + 'static) {
+    std::thread::Builder::new().stack_size(1 << 30).spawn(run).expect("a thread").join().expect("no difference");
+}
+
+#[test]
+fn tokens_are_the_rusts() {
+    let texts = texts_of(families::tokens(), 7);
+    texts.iter().for_each(|text| same_tokens(text));
+    assert!(texts.len() > 20_000, "only {} texts", texts.len());
+    println!("{} texts cut into the same tokens", texts.len());
+}
+
+#[test]
+fn events_and_trees_are_the_rusts() {
+    with_stack(|| {
+        let texts = texts_of(families::sections(), 8);
+        let read = texts.iter().filter(|text| same_section(text)).count();
+        assert!(read > 20_000, "only {read} of {} texts were read", texts.len());
+        println!("{read} of {} texts read to the same events and trees, the others refused", texts.len());
+    });
+}

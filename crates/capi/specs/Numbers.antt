@@ -1,0 +1,27 @@
+-- What the exported calls write into lent numbers. Assumes nothing.
+use Prim.Native.Nat.{ℕ, min}
+use mathlib.Core.List.{List, [], _∷_}
+use lib.ListN.{length, take, drop}
+use Rattle.aadl.specs.declared.Answer.{Answer}
+use Rattle.aadl.specs.Tokens.{total, token-text}
+use Rattle.lexer.specs.Filling.{write}
+
+-- "The answer holds number (0 if none), place (0 if none), tokens, taken .., events."
+abbrev pub numbers : Answer → List ℕ
+numbers a = a .number ∷ a .place ∷ a .tokens ∷ a .taken ∷ a .events ∷ []
+
+-- Lent numbers at exit: an answer's over the first of them, as many as are lent; the others as they were.
+unfoldable pub told : Answer → (old : List ℕ) → List ℕ
+told a old = write (numbers a) old
+
+-- Where a token's text starts: where the lengths before it sum to, but never past the text's end.
+abbrev pub text-start : (text words : List ℕ) → (number : ℕ) → ℕ
+text-start text words i = min (total (take i words)) (length text)
+
+-- Two lent numbers at exit: the start and the length of a token's text, as far as they are lent; the others as they were.
+unfoldable pub part-told : (text words : List ℕ) → (number : ℕ) → (old : List ℕ) → List ℕ
+part-told text words i old = write (text-start text words i ∷ length (token-text text words i) ∷ []) old
+
+-- The part of a text that has a start and a length.
+abbrev pub part-of : (text : List ℕ) → (start len : ℕ) → List ℕ
+part-of text start len = take len (drop start text)

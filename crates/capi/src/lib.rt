@@ -1,0 +1,101 @@
+// The calls as C and Rust link them: on numbers and slices alone, each proved to be the library's call. bindings/ says how they are
+// called from outside. Every length is allowed, and no call asks anything of what is lent.
+
+use aadl::Answer;
+ghost use mathlib.Core.Path.{_≡_};
+ghost use Prim.Native.Nat.{_+_, _≤_, min};
+ghost use lib.ListN.{length, take, set};
+ghost use Rattle.aadl.specs.Limits.{base};
+ghost use Rattle.aadl.specs.Tokens.{total, token-text};
+ghost use Rattle.aadl.specs.Answers.{tokens-answer, section-answer, token-words, event-words, left-in};
+ghost use Rattle.aadl.specs.Demand.{Read-as-derived};
+ghost use Rattle.capi.specs.Numbers.{told, text-start, part-told, part-of};
+
+// Sets a number if it is lent.
+fn put(numbers: &mut [usize], at: usize, n: usize)
+    ensures { λ r. ⌜ now (numbers .exit) ≡ set (now (numbers .entry)) at n ⌝ }
+{
+    if at < numbers.len() {
+        numbers[at] = n;
+    }
+}
+
+// Writes an answer's five numbers, as many as are lent.
+fn tell(numbers: &mut [usize], a: Answer)
+    ensures { λ r. ⌜ now (numbers .exit) ≡ told a (now (numbers .entry)) ⌝ }
+{
+    put(numbers, 0, a.number as usize);
+    put(numbers, 1, a.place);
+    put(numbers, 2, a.tokens);
+    put(numbers, 3, a.taken);
+    put(numbers, 4, a.events);
+}
+
+// The section call: tokens and events into lent words, the answer's numbers into lent numbers.
+#[no_mangle]
+pub extern "C" fn gigboda_property_section(
+    src: &[u8],
+    tokens: &mut [u32],
+    events: &mut [u32],
+    answer: &mut [usize],
+)
+    ensures answered { λ r. ⌜ now (answer .exit) ≡ told (section-answer base (now (src .entry)) (length (now (tokens .entry))) (length (now (events .entry)))) (now (answer .entry)) ⌝ }
+    ensures token_words { λ r. ⌜ now (tokens .exit) ≡ left-in (section-answer base (now (src .entry)) (length (now (tokens .entry))) (length (now (events .entry)))) (token-words (now (src .entry))) (now (tokens .entry)) ⌝ }
+    ensures event_words { λ r. ⌜ now (events .exit) ≡ left-in (section-answer base (now (src .entry)) (length (now (tokens .entry))) (length (now (events .entry)))) (event-words base (now (src .entry))) (now (events .entry)) ⌝ }
+    ensures derived { λ r. ⌜ (section-answer base (now (src .entry)) (length (now (tokens .entry))) (length (now (events .entry))) .number ≡ 0 → Read-as-derived (now (src .entry)) (section-answer base (now (src .entry)) (length (now (tokens .entry))) (length (now (events .entry)))) (now (events .exit))) ⌝ }
+{
+    let a = section::property_section(src, tokens, events);
+    tell(answer, a);
+}
+
+// The tokens-only call: tokens into lent words, the answer's numbers into lent numbers.
+#[no_mangle]
+pub extern "C" fn gigboda_tokenize(src: &[u8], tokens: &mut [u32], answer: &mut [usize])
+    ensures answered { λ r. ⌜ now (answer .exit) ≡ told (tokens-answer base (now (src .entry)) (length (now (tokens .entry)))) (now (answer .entry)) ⌝ }
+    ensures token_words { λ r. ⌜ now (tokens .exit) ≡ left-in (tokens-answer base (now (src .entry)) (length (now (tokens .entry)))) (token-words (now (src .entry))) (now (tokens .entry)) ⌝ }
+{
+    let a = lexer::tokenize(src, tokens);
+    tell(answer, a);
+}
+
+// A sum, at most a cap.
+fn add_capped(a: usize, b: usize, cap: usize) -> usize
+    requires { ⌜ a ≤ cap ⌝ }
+    ensures { λ r. ⌜ r ≡ min (a + b) cap ⌝ }
+{
+    if b < cap - a {
+        return a + b;
+    }
+    cap
+}
+
+// The sum of the lengths in the first words, at most a cap.
+fn start_of(words: &[u32], number: usize, cap: usize) -> usize
+    ensures { λ r. ⌜ r ≡ min (total (take number (now (words .entry)))) cap ⌝ }
+{
+    let mut at = 0;
+    let mut k = 0;
+    while k < number {
+        if words.len() <= k {
+            return at;
+        }
+        let n = (words[k] % 65536) as usize;
+        at = add_capped(at, n, cap);
+        k += 1;
+    }
+    at
+}
+
+// The text of a token, by its number: where it starts in the lent text and how long it is, into lent numbers. An exported function
+// cannot return a part of the text itself.
+#[no_mangle]
+pub extern "C" fn gigboda_token_text(src: &[u8], words: &[u32], number: usize, part: &mut [usize])
+    ensures part_numbers { λ r. ⌜ now (part .exit) ≡ part-told (now (src .entry)) (now (words .entry)) number (now (part .entry)) ⌝ }
+    ensures part_text { λ r. ⌜ part-of (now (src .entry)) (text-start (now (src .entry)) (now (words .entry)) number) (length (token-text (now (src .entry)) (now (words .entry)) number)) ≡ token-text (now (src .entry)) (now (words .entry)) number ⌝ }
+{
+    let text = lexer::token_text(src, words, number);
+    let len = text.len();
+    let from = start_of(words, number, src.len());
+    put(part, 0, from);
+    put(part, 1, len);
+}

@@ -1,0 +1,112 @@
+//! The texts that are measured: each family at each size, cut at a whole piece. Every text begins with `properties`, so that the
+//! section call reads it, and none is refused.
+
+#[derive(Clone)]
+pub struct Text {
+    pub family: &'static str,
+    pub bytes: usize,
+    pub text: String,
+}
+
+pub const SIZES: [usize; 3] = [1024, 8192, 32768];
+
+/// A gateway's section as people write them: names, numbers with units, lists, records, references, comments.
+const REALISTIC: &str = "
+  -- what the gateway may do, and where its parts run
+  Gateway_Properties::Role => Field_Gateway;
+  Gateway_Properties::Zones => (Press_Line, Paint_Line, Yard);
+  Dispatch_Protocol => Periodic applies to control.poll;
+  Period => 20 ms applies to control.poll;
+  Compute_Execution_Time => 1 ms .. 5 ms applies to control.poll, control.report;
+  Deadline => 15 ms in modes (nominal), 40 ms in modes (degraded);
+  Queue_Size => 16 applies to uplink;
+  Actual_Processor_Binding => (reference (board.cpu[0])) applies to control;
+  Actual_Memory_Binding => (reference (board.ram)) applies to control in binding (Boards::Gateway.basic);
+  Actual_Connection_Binding => (reference (field_bus), reference (plant_net)) applies to uplink;
+  Base_Address => 16#4000_3000# applies to board.modem;
+  Input_Rate => [ Value_Range => 1.0 .. 10.0; Rate_Unit => PerSecond; ] applies to sensors;
+  Source_Text => (\"poll.c\", \"report.c\") applies to control;
+";
+
+/// As many whole pieces as fit between a head and a tail.
+fn filled(bytes: usize, head: &str, piece: impl Fn(usize) -> String, tail: &str) -> String {
+    let mut text = String::from(head);
+    for n in 0.. {
+        let next = piece(n);
+        if text.len() + next.len() + tail.len() > bytes {
+            break;
+        }
+        text.push_str(&next);
+    }
+    text + tail
+}
+
+fn realistic(bytes: usize) -> String {
+    let lines: Vec<&str> = REALISTIC.split_inclusive('\n').skip(1).collect();
+    filled(bytes, "properties\n", |n| lines[n % lines.len()].to_string(), "")
+}
+
+fn identifiers(bytes: usize) -> String {
+    let words = ["Press_Line", "yard", "Paint_Line_2", "x", "Modem", "Actual_Binding", "rate", "Gateway"];
+    filled(bytes, "properties ", |n| format!("{} ", words[n % words.len()]), "")
+}
+
+fn comments(bytes: usize) -> String {
+    filled(bytes, "properties\n", |n| format!("-- line {} of what nobody reads but the next engineer\n", n % 100), "")
+}
+
+fn numbers_and_strings(bytes: usize) -> String {
+    let values = ["12", "\"poll.c\"", "3.25", "16#4000_3000#", "\"a \"\"quoted\"\" word\"", "1.5e-3", "1_000", "2#1010#e4"];
+    filled(bytes, "properties\nA => (0", |n| format!(", {}", values[n % values.len()]), ");")
+}
+
+fn nested(bytes: usize) -> String {
+    let depth = 40;
+    // Each list is four events; with two spaces the longest text has fewer than may be.
+    filled(bytes, "properties\n", |_| format!("A => {}1{};\n", "(  ".repeat(depth), ")  ".repeat(depth)), "")
+}
+
+fn errors(bytes: usize) -> String {
+    // Each ends where the next association can begin, so that all of them are read.
+    let broken = ["Alarm 1;", " Baud => ;", " Cells => (1,, 2;", " Depot :: => x;", " Edge => 0x1;", " Fan 5 x", " Gate => [ h; ];", " Hall => 1 applies x;"];
+    filled(bytes, "properties\n", |n| broken[n % broken.len()].to_string() + "\n", "")
+}
+
+fn c_style(bytes: usize) -> String {
+    filled(bytes, "properties\nA => 0x1", |_| ", 0x1".to_string(), ";")
+}
+
+fn comment_gap(bytes: usize) -> String {
+    filled(bytes, "properties A\n", |_| "--\n".to_string(), "=> 1;")
+}
+
+fn long_identifier(bytes: usize) -> String {
+    filled(bytes, "properties ", |n| ["abcdefg", "hijklmn", "OPQ_123"][n % 3].to_string(), " => 1;")
+}
+
+fn openers(bytes: usize) -> String {
+    filled(bytes, "properties\n", |_| format!("A => {}1;\n", "-   ".repeat(64)), "")
+}
+
+/// Every family at every size, the realistic ones first.
+pub fn all() -> Vec<Text> {
+    let families: [(&'static str, fn(usize) -> String); 10] = [
+        ("realistic", realistic),
+        ("identifiers", identifiers),
+        ("comments", comments),
+        ("numbers and strings", numbers_and_strings),
+        ("deep nesting", nested),
+        ("errors everywhere", errors),
+        ("0x1, 0x1, ..", c_style),
+        ("comments between two tokens", comment_gap),
+        ("one long identifier", long_identifier),
+        ("64 openers over and over", openers),
+    ];
+    let mut texts = Vec::new();
+    for (family, make) in families {
+        for bytes in SIZES {
+            texts.push(Text { family, bytes, text: make(bytes) });
+        }
+    }
+    texts
+}
