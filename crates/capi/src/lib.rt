@@ -3,10 +3,9 @@
 
 use aadl::Answer;
 ghost use mathlib.Core.Path.{_≡_};
-ghost use Prim.Native.Nat.{_+_, _≤_, min};
-ghost use lib.ListN.{length, take, set};
+ghost use lib.ListN.{length, set};
 ghost use Rattle.aadl.specs.Limits.{base};
-ghost use Rattle.aadl.specs.Tokens.{total, token-text};
+ghost use Rattle.aadl.specs.Tokens.{token-text};
 ghost use Rattle.aadl.specs.Answers.{tokens-answer, section-answer, token-words, event-words, left-in};
 ghost use Rattle.aadl.specs.Demand.{Read-as-derived};
 ghost use Rattle.capi.specs.Numbers.{told, text-start, part-told, part-of};
@@ -58,34 +57,6 @@ pub extern "C" fn gigboda_tokenize(src: &[u8], tokens: &mut [u32], answer: &mut 
     tell(answer, a);
 }
 
-// A sum, at most a cap.
-fn add_capped(a: usize, b: usize, cap: usize) -> usize
-    requires { ⌜ a ≤ cap ⌝ }
-    ensures { λ r. ⌜ r ≡ min (a + b) cap ⌝ }
-{
-    if b < cap - a {
-        return a + b;
-    }
-    cap
-}
-
-// The sum of the lengths in the first words, at most a cap.
-fn start_of(words: &[u32], number: usize, cap: usize) -> usize
-    ensures { λ r. ⌜ r ≡ min (total (take number (now (words .entry)))) cap ⌝ }
-{
-    let mut at = 0;
-    let mut k = 0;
-    while k < number {
-        if words.len() <= k {
-            return at;
-        }
-        let n = (words[k] % 65536) as usize;
-        at = add_capped(at, n, cap);
-        k += 1;
-    }
-    at
-}
-
 // The text of a token, by its number: where it starts in the lent text and how long it is, into lent numbers. An exported function
 // cannot return a part of the text itself.
 #[no_mangle]
@@ -95,7 +66,7 @@ pub extern "C" fn gigboda_token_text(src: &[u8], words: &[u32], number: usize, p
 {
     let text = lexer::token_text(src, words, number);
     let len = text.len();
-    let from = start_of(words, number, src.len());
+    let from = lexer::token_start(words, number, src.len());
     put(part, 0, from);
     put(part, 1, len);
 }

@@ -8,16 +8,16 @@ use mathlib.Core.List.{List, [], _∷_, _++_}
 use lib.ListN.{length}
 use lib.Dec.{eqb}
 use types.Run.{OneOf}
-use borrow.Author.Tests.{eq-eqb, ne-eqb}
+use borrow.Author.Tests.{ne-eqb}
 use Rattle.predictive.specs.Forest.{message}
 use Rattle.predictive.specs.Grammar.{Head, at, has, free, Part, opt, wrong, fail, either, inside, opens, before, rule}
 use Rattle.predictive.specs.Reader.{miss, ones, first, null, take-one, take-any, step, below, read}
-use Rattle.predictive.proofs.Tests.{_and_, never}
+use Rattle.predictive.proofs.Tests.{_and_, or-l, or-r}
 use Rattle.predictive.proofs.Lookahead.{single}
 use Rattle.predictive.proofs.Heads.{same, among, within-heads, within-absent}
 use Rattle.predictive.specs.Notation.{_·_}
 use Rattle.aadl.specs.Kinds.{#_, ERROR, COMMA, DOT-DOT, STAR, SLASH, BINARY-EXPR, NOT-KW, L-PAREN, L-BRACKET, PLUS, MINUS, INTEGER-LIT, REAL-LIT, STRING-LIT, TRUE-KW, FALSE-KW, CLASSIFIER-KW, REFERENCE-KW, COMPUTE-KW, IDENT}
-use Rattle.aadl.specs.Symbols.{C-STYLE}
+use Rattle.aadl.specs.Symbols.{C-STYLE, shown}
 use Rattle.aadl.specs.Section.{Rule, Expression, Negated, token, one-of, product, sum, delta-value, names, keywords, numbers, grammar, operand, expression, integer-value, real-value, string-value, boolean-value, not-value, classifier-value, reference-value, computed-value, list-value, record-value, named-value}
 use Rattle.aadl.specs.Section as G
 use Rattle.parser.specs.declared.Parser.{Parser}
@@ -25,14 +25,15 @@ use Rattle.parser.specs.declared.Completed.{Completed}
 use Rattle.parser.specs.declared.Operand.{Operand}
 use Rattle.parser.specs.declared.CompletedMarker.{CompletedMarker}
 use Rattle.parser.specs.declared.Lhs.the-variants.{Node, Nothing}
-use Rattle.parser.specs.Input.{Input, rest, END, nth}
+use Rattle.parser.specs.Input.{Input, rest, nth}
 use Rattle.parser.specs.State.{with-left}
 use Rattle.parser.specs.Reads.{stands, reading-at, Read, ReadNode, ReadOperand}
 use Rattle.parser.proofs.Join.{r-same, r-opens, within-left, stands-at}
 use Rattle.parser.proofs.Nodes.{o-node, o-none, o-same}
 use Rattle.parser.proofs.Chains.{Chaining}
-use Rattle.categories.proofs.Words.{begins-one, begins-any, _also_, no-more, kinds-are}
-use Rattle.expressions.specs.Openers.{signed-value, opener-value}
+use Rattle.categories.proofs.Words.{begins-one, begins-any, _also_, no-more, stands-neither}
+use Rattle.expressions.specs.Openers.{openers, beginnings, signed-value, opener-value}
+use Rattle.expressions.proofs.Operators.{Plain, shown-stands, none-shown}
 
 -- The Expression after `not` is read as any other.
 pub r-negated : {inp : Input} {d : ℕ} {hs : List Head} {p : Parser} {b : List ℕ} {r : Parser} {c : List ℕ} → Read inp d expression p b r c →
@@ -49,29 +50,22 @@ alike-at : (inp : Input) (d k : ℕ) (P Q : Part Rule) (p : Parser) → Alike d 
 unfolding ones
 alike-at inp d k P Q p f s n h = begins-one k (λ (xs : List ℕ). read grammar n d P xs ≡ read grammar n d Q xs) (f n) (rest inp p) (stands-at inp (ones (k ∷ [])) p s h)
 
--- the token k stands
-stood : (inp : Input) (p : Parser) (k : ℕ) {x : ℕ} → has (k ∷ []) END ≡ false → x ≡ nth inp p 0 → x ≡ k → stands inp (ones (k ∷ [])) p ≡ true
-stood inp p k e g h = sym (kinds-are inp p (k ∷ []) e (sym h ∙ g)) ∙ rw (eq-eqb k k refl) refl
-
--- An operand of one kind of node, told by its first token k.
-pub arm : {inp : Input} {d j x : ℕ} {P : Part Rule} {p : Parser} {b : List ℕ} {r : Completed} {o : Operand} {c : List ℕ} (k : ℕ) → has (k ∷ []) END ≡ false →
-    Alike d k (inside j P) operand →
-    x ≡ nth inp p 0 → x ≡ k → ReadNode inp d (inside j P) p b r c → o ≡ record { p = r .p; lhs = Node (r .m) } → ReadOperand inp d operand p b o c
+-- An operand of one kind of node, told by its first token k: a symbol that stands, ..
+pub arm-at : {inp : Input} {d j : ℕ} {P : Part Rule} {p : Parser} {b : List ℕ} {r : Completed} {o : Operand} {c : List ℕ} (k : ℕ) → Alike d k (inside j P) operand →
+    stands inp (ones (k ∷ [])) p ≡ true → ReadNode inp d (inside j P) p b r c → o ≡ record { p = r .p; lhs = Node (r .m) } → ReadOperand inp d operand p b o c
 unfolding read step
-arm {inp} {d} {j} {x} {P} {p} {b} {r} {o} {c} k e f g h y q =
-    let s = stood inp p k e g h in
+arm-at {inp} {d} {j} {P} {p} {b} {r} {o} {c} k f s y q =
     subst (λ (t : Operand). ReadOperand inp d operand p b t c) (sym q)
     (o-node j (λ n. reading-at inp n d P p) (λ n i. sym (alike-at inp d k (inside j P) operand p f s n i)) (r-same (alike-at inp d k (inside j P) operand p f s) (y .reads)) (y .mark))
 
+-- .. or a kind that is shown.
+pub arm : {inp : Input} {d j x : ℕ} {P : Part Rule} {p : Parser} {b : List ℕ} {r : Completed} {o : Operand} {c : List ℕ} (k : ℕ) → Plain k → Alike d k (inside j P) operand →
+    x ≡ shown (nth inp p 0) → x ≡ k → ReadNode inp d (inside j P) p b r c → o ≡ record { p = r .p; lhs = Node (r .m) } → ReadOperand inp d operand p b o c
+arm {inp} {d} {j} {x} {P} {p} k a f g h y q = arm-at k f (shown-stands inp p k a g h) y q
+
 -- Where no token stands that begins an operand, message 5.
-abbrev pub openers : List ℕ
-openers = numbers (NOT-KW ∷ L-PAREN ∷ L-BRACKET ∷ PLUS ∷ MINUS ∷ [])
-
-abbrev pub others : List ℕ
-others = numbers (INTEGER-LIT ∷ REAL-LIT ∷ STRING-LIT ∷ TRUE-KW ∷ FALSE-KW ∷ CLASSIFIER-KW ∷ REFERENCE-KW ∷ COMPUTE-KW ∷ IDENT ∷ []) ++ C-STYLE ∷ []
-
 abbrev operand-kinds : List ℕ
-operand-kinds = openers ++ others
+operand-kinds = beginnings ++ C-STYLE ∷ []
 
 -- a side of a choice whose heads are among some of which none stands
 passed : (n d : ℕ) (P Q : Part Rule) (hs : List Head) (xs : List ℕ) → within-heads (first grammar P) hs ≡ true → at hs xs ≡ false →
@@ -103,7 +97,7 @@ operand-none n d xs e =
     ∙ by (wrong C-STYLE (# ERROR) 4) (fail 5) refl
     ∙ failed n d 5 xs
 
-pub no-operand : {inp : Input} {d : ℕ} {p : Parser} {b : List ℕ} {q : Parser} {c : List ℕ} → stands inp (ones (openers ++ others)) p ≡ false →
+pub no-operand : {inp : Input} {d : ℕ} {p : Parser} {b : List ℕ} {q : Parser} {c : List ℕ} → stands inp (ones (beginnings ++ C-STYLE ∷ [])) p ≡ false →
     Read inp d (fail 5) p b q c →
     ReadOperand inp d operand p b (record { p = q; lhs = Nothing }) c
 unfolding read step
@@ -140,11 +134,11 @@ opened {inp} {j} {P} {p} {q} {b} {r} {o} {c} h e f y g =
     (subst (Behind inp j P p b r c) (sym e) (behind inp j P p b r c h) f y)
 
 -- .. by the token k ..
-pub opened-by : {inp : Input} {j x : ℕ} {P : Part Rule} {p q : Parser} {b : List ℕ} {r : Completed} {o : Operand} {c : List ℕ} (k : ℕ) → has (k ∷ []) END ≡ false →
-    Alike (suc (q .left)) k (inside j P) opener-value → (p .left ≡ 0 → ⊥) → q ≡ with-left (p .left - 1) p → x ≡ nth inp q 0 → x ≡ k →
+pub opened-by : {inp : Input} {j x : ℕ} {P : Part Rule} {p q : Parser} {b : List ℕ} {r : Completed} {o : Operand} {c : List ℕ} (k : ℕ) → Plain k →
+    Alike (suc (q .left)) k (inside j P) opener-value → (p .left ≡ 0 → ⊥) → q ≡ with-left (p .left - 1) p → x ≡ shown (nth inp q 0) → x ≡ k →
     ReadNode inp (suc (q .left)) (inside j P) q b r c →
     o ≡ record { p = with-left (p .left) (r .p); lhs = Node (r .m) } → ReadOperand inp (p .left) (opens opener-value) p b o c
-opened-by {inp} {j} {x} {P} {p} {q} k e f h i g m y n = opened h i (alike-at inp (suc (q .left)) k (inside j P) opener-value q f (stood inp q k e g m)) y n
+opened-by {inp} {j} {x} {P} {p} {q} k e f h i g m y n = opened h i (alike-at inp (suc (q .left)) k (inside j P) opener-value q f (shown-stands inp q k e g m)) y n
 
 -- The tests that a `match` on x has failed, in its order.
 abbrev Failed : Type 0 → List ℕ → ℕ → Type 0
@@ -155,18 +149,23 @@ failed-all : (N : Type 0) (ks : List ℕ) (x : ℕ) → Failed N ks x → (has k
 failed-all N [] x r = (refl, r)
 failed-all N (k ∷ ks) x r = let i = failed-all (N × (OneOf (k ∷ []) x → ⊥)) ks x r in (rw (ne-eqb x k (i .1 .1)) (i .0), i .1 .0)
 
-pub none-stands : (inp : Input) (p : Parser) (ks : List ℕ) {x : ℕ} → has ks END ≡ false → x ≡ nth inp p 0 → Failed (Unit {0}) ks x → stands inp (ones ks) p ≡ false
-none-stands inp p ks {x} e g r = sym (kinds-are inp p ks e g) ∙ failed-all (Unit {0}) ks x r .0
+-- No operand begins where no opener stands, and the kind that is shown is neither `true` nor `false` nor one of the `match`.
+abbrev matched : List ℕ
+matched = numbers (INTEGER-LIT ∷ REAL-LIT ∷ STRING-LIT ∷ CLASSIFIER-KW ∷ REFERENCE-KW ∷ COMPUTE-KW ∷ IDENT ∷ [])
 
--- The same with the tests of `true` and `false`, which are made before the `match`.
-pub with-booleans : {x : ℕ} → eqb x 106 ≡ false → eqb x 107 ≡ false →
-    Failed (Unit {0}) (numbers (INTEGER-LIT ∷ REAL-LIT ∷ STRING-LIT ∷ CLASSIFIER-KW ∷ REFERENCE-KW ∷ COMPUTE-KW ∷ IDENT ∷ []) ++ C-STYLE ∷ []) x → Failed (Unit {0}) others x
-with-booleans {x} t f r =
-    (((((((r .0 .0 .0 .0 .0, λ e. never (sym t ∙ eq-eqb x 106 e)), λ e. never (sym f ∙ eq-eqb x 107 e)), r .0 .0 .0 .0 .1), r .0 .0 .0 .1), r .0 .0 .1), r .0 .1), r .1)
+pub none-begins : (inp : Input) (p : Parser) {x : ℕ} → x ≡ shown (nth inp p 0) → stands inp (ones openers) p ≡ false → eqb x 106 ≡ false → eqb x 107 ≡ false →
+    Failed (Unit {0}) matched x → stands inp (ones beginnings) p ≡ false
+unfolding ones
+none-begins inp p {x} g o t f r =
+    let u = failed-all (Unit {0}) matched x r .0 in
+    let n1 = or-r (eqb x 30) _ u in
+    stands-neither inp (ones openers) (ones (numbers (INTEGER-LIT ∷ REAL-LIT ∷ STRING-LIT ∷ TRUE-KW ∷ FALSE-KW ∷ CLASSIFIER-KW ∷ REFERENCE-KW ∷ COMPUTE-KW ∷ IDENT ∷ []))) p o
+    (none-shown inp p (numbers (INTEGER-LIT ∷ REAL-LIT ∷ STRING-LIT ∷ TRUE-KW ∷ FALSE-KW ∷ CLASSIFIER-KW ∷ REFERENCE-KW ∷ COMPUTE-KW ∷ IDENT ∷ [])) refl refl refl g
+    (rw (or-l (eqb x 30) _ u, or-l (eqb x 31) _ n1, or-l (eqb x 32) _ (or-r (eqb x 31) _ n1), t, f) (or-r (eqb x 32) _ (or-r (eqb x 31) _ n1))))
 
 -- .. or by none of those that begin the others: then a sign is taken
 pub opened-else : {inp : Input} {x : ℕ} {p q : Parser} {b : List ℕ} {r : Completed} {o : Operand} {c : List ℕ} → (p .left ≡ 0 → ⊥) → q ≡ with-left (p .left - 1) p →
-    x ≡ nth inp q 0 →
+    x ≡ shown (nth inp q 0) →
     Failed (Unit {0}) (numbers (NOT-KW ∷ L-PAREN ∷ L-BRACKET ∷ [])) x → ReadNode inp (suc (q .left)) signed-value q b r c →
     o ≡ record { p = with-left (p .left) (r .p); lhs = Node (r .m) } → ReadOperand inp (p .left) (opens opener-value) p b o c
 unfolding first null ones within-heads among same
@@ -174,14 +173,15 @@ opened-else {inp} {x} {p} {q} h i g m y n = opened h i alike y n
   where
     alike : (l : ℕ) → q .stop ≡ 0 → reading-at inp l (suc (q .left)) signed-value q ≡ reading-at inp l (suc (q .left)) opener-value q
     alike l z =
-        let hs = ones (numbers (NOT-KW ∷ L-PAREN ∷ L-BRACKET ∷ [])) in
-        let e = stands-at inp hs q (none-stands inp q (numbers (NOT-KW ∷ L-PAREN ∷ L-BRACKET ∷ [])) refl g m) z in
+        let ks = numbers (NOT-KW ∷ L-PAREN ∷ L-BRACKET ∷ []) in
+        let hs = ones ks in
+        let e = stands-at inp hs q (none-shown inp q ks refl refl refl g (failed-all (Unit {0}) ks x m .0)) z in
         let d = suc (q .left) in
         sym (passed l d not-value _ hs (rest inp q) refl e ∙ passed l d list-value _ hs (rest inp q) refl e ∙ passed l d record-value signed-value hs (rest inp q) refl e)
 
 -- An operand that begins with an opener.
 pub opener-operand : {inp : Input} {d : ℕ} {p : Parser} {b : List ℕ} {o : Operand} {c : List ℕ} →
-    stands inp (ones (numbers (NOT-KW ∷ L-PAREN ∷ L-BRACKET ∷ PLUS ∷ MINUS ∷ []))) p ≡ true → ReadOperand inp d (opens opener-value) p b o c →
+    stands inp (ones openers) p ≡ true → ReadOperand inp d (opens opener-value) p b o c →
     ReadOperand inp d operand p b o c
 unfolding read step first null ones names keywords take-one take-any
 opener-operand {inp} {d} {p} s x = o-same alike x
@@ -190,7 +190,7 @@ opener-operand {inp} {d} {p} s x = o-same alike x
     alike n h =
         begins-any (λ (xs : List ℕ). read grammar n d (opens opener-value) xs ≡ read grammar n d operand xs)
         ((λ ys. refl) also (λ ys. refl) also (λ ys. refl) also (λ ys. refl) also (λ ys. refl) also no-more)
-        (rest inp p) (stands-at inp (ones (numbers (NOT-KW ∷ L-PAREN ∷ L-BRACKET ∷ PLUS ∷ MINUS ∷ []))) p s h)
+        (rest inp p) (stands-at inp (ones openers) p s h)
 
 -- CHAINS ---------------------------------------------------------------------------------------------------------------
 

@@ -7,7 +7,7 @@ use mathlib.Core.Bool.{Bool, true, false, cond, _&&_}
 use mathlib.Core.List.{List, [], _∷_}
 use lib.ListN.{length, getD, drop}
 use lib.Dec.{eqb, lit<}
-use borrow.Author.Tests.{eqb-true, ne-eqb}
+use borrow.Author.Tests.{eqb-true, eq-eqb, ne-eqb}
 use Rattle.predictive.specs.Grammar.{has}
 use Rattle.predictive.specs.Reader.{ones}
 use Rattle.predictive.proofs.Tests.{and-l}
@@ -52,3 +52,15 @@ pub shown-are : (inp : Input) (p : Parser) (k : ℕ) (ks : List ℕ) {y : ℕ} �
     y ≡ shown (nth inp p 0) → joined (eqb y k) ks y ≡ stands inp (ones (k ∷ ks)) p
 shown-are inp p k ks {y} h e f g =
     joined-has (eqb y k) ks y ∙ ap (has (k ∷ ks)) g ∙ shown-has (k ∷ ks) (nth inp p 0) e f ∙ kinds-are inp p (k ∷ ks) h refl
+
+-- A kind that no other symbol shows: it stands where it is shown.
+abbrev pub Plain : ℕ → Type 0
+Plain k = (has (k ∷ []) END ≡ false) × (has (k ∷ []) (# ERROR) ≡ false) × (has (k ∷ []) C-STYLE ≡ false)
+
+pub shown-stands : (inp : Input) (p : Parser) (k : ℕ) {y : ℕ} → Plain k → y ≡ shown (nth inp p 0) → y ≡ k → stands inp (ones (k ∷ [])) p ≡ true
+shown-stands inp p k {y} h g e = sym (shown-are inp p k [] (h .0) (h .1) (h .2) g) ∙ eq-eqb y k e
+
+-- None of some kinds stands where none is shown.
+pub none-shown : (inp : Input) (p : Parser) (ks : List ℕ) {y : ℕ} → has ks END ≡ false → has ks (# ERROR) ≡ false → has ks C-STYLE ≡ false → y ≡ shown (nth inp p 0) →
+    has ks y ≡ false → stands inp (ones ks) p ≡ false
+none-shown inp p ks {y} h e f g n = sym (kinds-are inp p ks h refl) ∙ sym (shown-has ks (nth inp p 0) e f) ∙ ap (has ks) (sym g) ∙ n

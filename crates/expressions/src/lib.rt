@@ -57,6 +57,7 @@ use values::real_value;
 use values::reference_value;
 use values::string_value;
 ghost use mathlib.Core.Path.{_≡_};
+ghost use mathlib.Core.Bool.{false};
 ghost use mathlib.Core.List.{List, [], _∷_};
 ghost use Prim.Native.Nat.{ℕ, suc};
 ghost use Rattle.predictive.specs.Grammar.{Choice, opt, opens};
@@ -68,7 +69,7 @@ ghost use Rattle.aadl.specs.Symbols.{shown};
 ghost use Rattle.parser.specs.Input.{input, nth};
 ghost use Rattle.parser.specs.State.{with-left};
 ghost use Rattle.parser.specs.Reads.{stands, Read, ReadNode, ReadOperand};
-ghost use Rattle.expressions.specs.Openers.{signed-value, opener-value};
+ghost use Rattle.expressions.specs.Openers.{beginnings, signed-value, opener-value};
 ghost use Rattle.expressions.specs.Behind.{Extends, ToRange, ToExpression};
 
 // OPERANDS
@@ -97,11 +98,25 @@ fn closed(c: Completed, left: usize) -> Operand
     }
 }
 
+// The kind of the token where the parser stands, a C-style literal's too, or the end's.
+fn kind_at(toks: &[u32], p: Parser) -> u32
+    ensures { λ r. ⌜ ((text : List ℕ) → r ≡ shown (nth (input text (now (toks .entry))) p 0)) ⌝ }
+{
+    if p.stop != 0 {
+        return END;
+    }
+    let at = p.at;
+    if at < toks.len() {
+        return toks[at] / 65536 % 256;
+    }
+    END
+}
+
 // An opener stands: `not`, `(`, `[` or a sign.
 fn at_opener(text: &[u8], toks: &[u32], p: Parser) -> bool
     ensures { λ r. ⌜ r ≡ stands (input (now (text .entry)) (now (toks .entry))) (ones (G.numbers (K.NOT-KW ∷ K.L-PAREN ∷ K.L-BRACKET ∷ K.PLUS ∷ K.MINUS ∷ []))) p ⌝ }
 {
-    let kind = current(text, toks, p);
+    let kind = kind_at(toks, p);
     (kind == NOT_KW) | (kind == L_PAREN) | (kind == L_BRACKET) | (kind == PLUS) | (kind == MINUS)
 }
 
@@ -112,7 +127,7 @@ fn property_expression_primary(text: &[u8], toks: &[u32], events: &mut [u32], p:
     if at_opener(text, toks, p) {
         return opener(text, toks, events, p);
     }
-    let kind = current(text, toks, p);
+    let kind = kind_at(toks, p);
     if (kind == TRUE_KW) | (kind == FALSE_KW) {
         return operand(boolean_value(text, toks, events, p));
     }
@@ -124,14 +139,22 @@ fn property_expression_primary(text: &[u8], toks: &[u32], events: &mut [u32], p:
         REFERENCE_KW => operand(reference_value(text, toks, events, p)),
         COMPUTE_KW => operand(computed_value(text, toks, events, p)),
         IDENT => operand(named_value(text, toks, events, p)),
-        C_STYLE => operand(c_style_value(text, toks, events, p)),
-        _ => {
-            let p = error(events, p, 5);
-            Operand {
-                p,
-                lhs: Lhs::Nothing,
-            }
-        }
+        _ => no_operand(text, toks, events, p),
+    }
+}
+
+// Where none of the kinds stands that begin an operand: a C-style literal, or message 5.
+fn no_operand(text: &[u8], toks: &[u32], events: &mut [u32], p: Parser) -> Operand
+    requires { ⌜ stands (input (now text) (now toks)) (ones beginnings) p ≡ false ⌝ }
+    ensures { λ r. ⌜ ((d : ℕ) → ReadOperand (input (now (text .entry)) (now (toks .entry))) d G.operand p (now (events .entry)) r (now (events .exit))) ⌝ }
+{
+    if current(text, toks, p) == C_STYLE {
+        return operand(c_style_value(text, toks, events, p));
+    }
+    let p = error(events, p, 5);
+    Operand {
+        p,
+        lhs: Lhs::Nothing,
     }
 }
 
@@ -148,7 +171,7 @@ fn opener(text: &[u8], toks: &[u32], events: &mut [u32], p: Parser) -> Operand
         };
     }
     let q = with_left(p, left - 1);
-    let kind = current(text, toks, q);
+    let kind = kind_at(toks, q);
     match kind {
         NOT_KW => closed(not_value(text, toks, events, q), left),
         L_PAREN => closed(list_value(text, toks, events, q), left),
@@ -229,20 +252,6 @@ fn at_sign(text: &[u8], toks: &[u32], p: Parser) -> bool
 {
     let kind = current(text, toks, p);
     (kind == PLUS) | (kind == MINUS)
-}
-
-// The kind of the token where the parser stands, a C-style literal's too, or the end's.
-fn kind_at(toks: &[u32], p: Parser) -> u32
-    ensures { λ r. ⌜ ((text : List ℕ) → r ≡ shown (nth (input text (now (toks .entry))) p 0)) ⌝ }
-{
-    if p.stop != 0 {
-        return END;
-    }
-    let at = p.at;
-    if at < toks.len() {
-        return toks[at] / 65536 % 256;
-    }
-    END
 }
 
 // An operator stands: `*`, `/`, `+`, `-` or `..`.

@@ -1,62 +1,69 @@
--- A string whose next quote has no other after it ends there. By induction over the bytes up to that quote. Assumes nothing.
-use Prim.Native.Nat.{ℕ, zero, suc, _+_, _-_, _<_}
-use native.Mathlib.Nat.{not-suc-le-zero}
+-- Where a string ends, by the byte at a place in it: one that is no quote, a quote that no other follows, a doubled quote, and the end
+-- of the text. After the first and the third the end is that of what remains. Assumes nothing.
+use Prim.Native.Nat.{ℕ, suc, _+_, _-_, _≤_, _<_}
+use native.Mathlib.Numerals.{add-one}
 use native.Mathlib.Omega.{arith}
 use mathlib.Core.Path.{_≡_, refl, sym, ap, _∙_}
-use mathlib.Core.Bool.{Bool, true, false}
+use mathlib.Core.Bool.{true, false}
 use mathlib.Core.List.{List, [], _∷_}
-use lib.ListN.{length, getD, drop, length-drop}
+use lib.ListN.{length, getD, drop, drop-of-length-le}
 use lib.Seq.{drop-cons, drop-drop, getD-drop}
 use lib.Dec.{eqb}
+use borrow.Author.Tests.{eqb-false, ne-eqb}
 use Rattle.aadl.specs.Kinds.{#_, STRING-LIT}
-use Rattle.aadl.specs.Bytes.{peek, is-whitespace, run, run-end}
+use Rattle.aadl.specs.Bytes.{peek, is-whitespace}
 use Rattle.aadl.specs.Tokens.{token, quoted, string-of, token-of}
-use Rattle.runs.specs.Classes.{other-than}
 
--- how many bytes come before the next quote
-abbrev before-quote : List ℕ → ℕ
-before-quote bs = run (other-than 34) bs
+-- the place after the string whose bytes begin at a place
+abbrev pub end-from : List ℕ → ℕ → ℕ
+end-from s i = i + quoted false (drop i s) .len
 
 -- after a quote that no other follows nothing belongs to the string
-closes : (bs : List ℕ) → eqb (peek bs 0) 34 ≡ false → quoted true bs .len ≡ 0
+closes : (bs : List ℕ) → (peek bs 0 ≡ 34 → ⊥) → quoted true bs .len ≡ 0
 unfolding quoted
-closes [] e = refl
-closes (c ∷ cs) e = rw e refl
+closes [] n = refl
+closes (c ∷ cs) n = rw (ne-eqb c 34 n) refl
 
-abbrev Plain : List ℕ → Type 0
-Plain bs = before-quote bs < length bs → eqb (peek bs (suc (before-quote bs))) 34 ≡ false → quoted false bs .len ≡ suc (before-quote bs)
+-- after a quote that another follows that one belongs to the string, and what remains begins behind it
+doubles : (bs : List ℕ) → peek bs 0 ≡ 34 → quoted true bs .len ≡ suc (quoted false (drop 1 bs) .len)
+unfolding quoted
+doubles [] q = absurd (eqb-false 0 34 refl q)
+doubles (c ∷ cs) q = rw q refl
 
-plain-more : (b : ℕ) (bs : List ℕ) (t : Bool) → eqb b 34 ≡ t → Plain bs → Plain (b ∷ bs)
-unfolding run quoted
-plain-more b bs true t ih h e =
-    let r : before-quote (b ∷ bs) ≡ 0 = rw t refl in
-    let q : quoted false (b ∷ bs) .len ≡ 1 = rw t (ap suc (closes bs (ap (λ (k : ℕ). eqb (peek (b ∷ bs) (suc k)) 34) (sym r) ∙ e))) in
-    q ∙ ap suc (sym r)
-plain-more b bs false t ih h e =
-    let r : before-quote (b ∷ bs) ≡ suc (before-quote bs) = rw t refl in
-    let q : quoted false (b ∷ bs) .len ≡ suc (quoted false bs .len) = rw t refl in
-    q ∙ ap suc (ih (omega (arith, r, h)) (ap (λ (k : ℕ). eqb (peek (b ∷ bs) (suc k)) 34) (sym r) ∙ e) ∙ sym r)
+module _ (s : List ℕ) (i : ℕ) where
+  next : peek (drop (i + 1) s) 0 ≡ getD s (i + 1) 0
+  next =
+      let same : i + 1 + 0 ≡ i + 1 = omega arith in
+      getD-drop (i + 1) s 0 0 ∙ ap (λ (k : ℕ). getD s k 0) same
 
-plain-quoted : (bs : List ℕ) → Plain bs
-plain-quoted [] h e = absurd (not-suc-le-zero h)
-plain-quoted (b ∷ bs) h e = plain-more b bs (eqb b 34) refl (plain-quoted bs) h e
+  quote : i < length s → getD s i 0 ≡ 34 → quoted false (drop i s) .len ≡ suc (quoted true (drop (i + 1) s) .len)
+  unfolding quoted
+  quote h q = rw (drop-cons s i 0 h, q, add-one i) refl
 
-string-token : (bs rs : List ℕ) → drop 1 bs ≡ rs → peek bs 0 ≡ 34 → before-quote rs < length rs → eqb (peek rs (suc (before-quote rs))) 34 ≡ false →
-    token (# STRING-LIT) (suc (suc (before-quote rs))) ≡ token-of bs
-unfolding token-of string-of
-string-token bs rs d q h e =
-    let w : is-whitespace (peek bs 0) ≡ false = ap is-whitespace q in
-    let m : eqb (peek bs 0) 45 ≡ false = ap (λ (b : ℕ). eqb b 45) q in
-    let t : eqb (peek bs 0) 34 ≡ true = ap (λ (b : ℕ). eqb b 34) q in
-    ap (λ (n : ℕ). token (# STRING-LIT) (suc n)) (sym (plain-quoted rs h e) ∙ ap (λ (l : List ℕ). quoted false l .len) (sym d)) ∙ rw (w, m, t) refl
+  pub string-plain : i < length s → (getD s i 0 ≡ 34 → ⊥) → end-from s i ≡ end-from s (i + 1)
+  unfolding quoted
+  string-plain h n = rw (drop-cons s i 0 h, ne-eqb (getD s i 0) 34 n, add-one i) (omega arith)
 
--- the same at a place: e is the place of the next quote
-pub string-at : (s : List ℕ) (i e : ℕ) → i < length s → getD s i 0 ≡ 34 → e ≡ run-end (other-than 34) s (i + 1) → e < length s → eqb (getD s (e + 1) 0) 34 ≡ false →
-    token (# STRING-LIT) (e + 1 - i) ≡ token-of (drop i s)
-unfolding run-end
-string-at s i e h b q l n =
-    let rs = drop (i + 1) s in
-    let k = before-quote rs in
-    let first : peek (drop i s) 0 ≡ 34 = ap (λ (bs : List ℕ). getD bs 0 0) (drop-cons s i 0 h) ∙ b in
-    let next : getD rs (suc k) 0 ≡ getD s (e + 1) 0 = getD-drop (i + 1) s (suc k) 0 ∙ ap (λ (j : ℕ). getD s j 0) (omega (arith, q)) in
-    ap (token (# STRING-LIT)) (omega (arith, q)) ∙ string-token (drop i s) rs (drop-drop 1 i s) first (omega (arith, q, l, length-drop (i + 1) s)) (ap (λ (x : ℕ). eqb x 34) next ∙ n)
+  pub string-closed : i < length s → getD s i 0 ≡ 34 → (getD s (i + 1) 0 ≡ 34 → ⊥) → end-from s i ≡ i + 1
+  string-closed h q n = omega (arith, quote h q, closes (drop (i + 1) s) (λ p. n (sym next ∙ p)))
+
+  pub string-doubled : i < length s → getD s i 0 ≡ 34 → getD s (i + 1) 0 ≡ 34 → end-from s i ≡ end-from s (i + 2)
+  string-doubled h q r =
+      let same : i + 1 + 1 ≡ i + 2 = omega arith in
+      let behind : drop 1 (drop (i + 1) s) ≡ drop (i + 2) s = drop-drop 1 (i + 1) s ∙ ap (λ (k : ℕ). drop k s) same in
+      omega (arith, quote h q, doubles (drop (i + 1) s) (next ∙ r), ap (λ (bs : List ℕ). quoted false bs .len) behind)
+
+  pub string-over : length s ≤ i → end-from s i ≡ i
+  unfolding quoted
+  string-over h = rw (drop-of-length-le s h) (omega arith)
+
+  -- the string whose opening quote is at the place, by its end
+  pub string-at : (e : ℕ) → i < length s → getD s i 0 ≡ 34 → e ≡ end-from s (i + 1) → token (# STRING-LIT) (e - i) ≡ token-of (drop i s)
+  unfolding token-of string-of
+  string-at e h q p =
+      let first : peek (drop i s) 0 ≡ 34 = ap (λ (bs : List ℕ). getD bs 0 0) (drop-cons s i 0 h) ∙ q in
+      let w : is-whitespace (peek (drop i s) 0) ≡ false = ap is-whitespace first in
+      let m : eqb (peek (drop i s) 0) 45 ≡ false = ap (λ (b : ℕ). eqb b 45) first in
+      let t : eqb (peek (drop i s) 0) 34 ≡ true = ap (λ (b : ℕ). eqb b 34) first in
+      let len : e - i ≡ suc (quoted false (drop 1 (drop i s)) .len) = omega (arith, p, ap (λ (bs : List ℕ). quoted false bs .len) (drop-drop 1 i s)) in
+      ap (token (# STRING-LIT)) len ∙ rw (w, m, t) refl

@@ -28,12 +28,13 @@ use syntax_kind::WHITESPACE;
 use syntax_kind::wide;
 use syntax_kind::wide32;
 ghost use mathlib.Core.Path.{_≡_};
+ghost use mathlib.Core.Bool.{false};
 ghost use Prim.Native.Nat.{ℕ, _+_, _≤_, _<_, min};
 ghost use lib.ListN.{length, getD, take, drop, replicate};
 ghost use Rattle.aadl.specs.Limits.{base};
 ghost use Rattle.aadl.specs.Utf8.{ill-formed};
-ghost use Rattle.aadl.specs.Tokens.{total, token-text, token-of};
-ghost use Rattle.aadl.specs.Answers.{tokens-answer, token-words, left-in};
+ghost use Rattle.aadl.specs.Tokens.{quoted, total, token-text, token-of};
+ghost use Rattle.aadl.specs.Answers.{refused, tokens-answer, token-words, left-in};
 ghost use Rattle.keywords.specs.Tables.{Lent};
 ghost use Rattle.runs.specs.Classes.{class-table};
 ghost use Rattle.lexer.specs.Filling.{write, filled-of};
@@ -45,19 +46,34 @@ pub struct Filled {
     pub count: usize,
 }
 
-// The token that begins at a place: a string without a quote in it by its next quote, any other by the plain scanner.
+// The place after the string whose bytes begin at a place: behind the next quote that is not doubled, or the end.
+fn string_end(s: &[u8], from: usize) -> usize
+    ensures { λ r. ⌜ r ≡ from + quoted false (drop from (now (s .entry))) .len ⌝ }
+{
+    let mut i = from;
+    while i < s.len() {
+        if s[i] == b'"' {
+            if peek(s, i + 1) != b'"' {
+                return i + 1;
+            }
+            i += 2;
+        } else {
+            i += 1;
+        }
+    }
+    i
+}
+
+// The token that begins at a place: a string by its end, any other by the plain scanner.
 fn scan_quoted(s: &[u8], at: usize) -> Token
     requires { ⌜ at < length (now s) ⌝ }
     ensures { λ r. ⌜ r ≡ token-of (drop at (now (s .entry))) ⌝ }
 {
     if s[at] == b'"' {
-        let e = next_byte(s, at + 1, b'"');
-        if (e < s.len()) & !(peek(s, e + 1) == b'"') {
-            return Token {
-                kind: STRING_LIT,
-                len: e + 1 - at,
-            };
-        }
+        return Token {
+            kind: STRING_LIT,
+            len: string_end(s, at + 1) - at,
+        };
     }
     scan_token(&s[at..])
 }
@@ -243,13 +259,15 @@ fn add_capped(a: usize, b: usize, cap: usize) -> usize
 }
 
 // The sum of the lengths in the first words, at most a cap.
-fn token_start(words: &[u32], number: usize, cap: usize) -> usize
-    requires { ⌜ number ≤ length (now words) ⌝ }
+pub fn token_start(words: &[u32], number: usize, cap: usize) -> usize
     ensures { λ r. ⌜ r ≡ min (total (take number (now (words .entry)))) cap ⌝ }
 {
     let mut at = 0;
     let mut k = 0;
     while k < number {
+        if words.len() <= k {
+            return at;
+        }
         let n = (words[k] % 65536) as usize;
         at = add_capped(at, n, cap);
         k += 1;
@@ -274,42 +292,35 @@ pub fn token_text<'a>(src: &'a [u8], words: &[u32], number: usize) -> &'a [u8]
     &src[from..end]
 }
 
+// A refusal zeroes every lent word.
+fn refuse(tokens: &mut [u32], number: u32, place: usize) -> Answer
+    ensures { λ r. ⌜ (r ≡ refused number place) × (now (tokens .exit) ≡ replicate (length (now (tokens .entry))) 0) ⌝ }
+{
+    clear(tokens);
+    Answer {
+        number,
+        place,
+        tokens: 0,
+        taken: 0,
+        events: 0,
+    }
+}
+
 // The tokens-only call: the tokens of a text into lent words, or one of the refusals 1 to 3 with all words zeroed.
 pub fn tokenize(src: &[u8], tokens: &mut [u32]) -> Answer
     ensures { λ r. ⌜ (r ≡ tokens-answer base (now (src .entry)) (length (now (tokens .entry)))) × (now (tokens .exit) ≡ left-in r (token-words (now (src .entry))) (now (tokens .entry))) ⌝ }
 {
     if 32768 < src.len() {
-        clear(tokens);
-        return Answer {
-            number: 1,
-            place: 32768,
-            tokens: 0,
-            taken: 0,
-            events: 0,
-        };
+        return refuse(tokens, 1, 32768);
     }
     let v = valid_up_to(src);
     if v != src.len() {
-        clear(tokens);
-        return Answer {
-            number: 2,
-            place: v,
-            tokens: 0,
-            taken: 0,
-            events: 0,
-        };
+        return refuse(tokens, 2, v);
     }
     let f = fill(src, tokens);
     let at = f.at;
     if f.full {
-        clear(tokens);
-        return Answer {
-            number: 3,
-            place: at,
-            tokens: 0,
-            taken: 0,
-            events: 0,
-        };
+        return refuse(tokens, 3, at);
     }
     let n = f.count;
     Answer {

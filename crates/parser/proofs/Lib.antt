@@ -8,6 +8,7 @@ pub mod Emitted
 pub mod Join
 pub mod Taking
 pub mod Loops
+pub mod Separated
 pub mod Turns
 pub mod Nodes
 pub mod Chains

@@ -62,6 +62,17 @@ module _ {inp : Input} {d : ℕ} {P : Part Rule} {p : Parser} {b : List ℕ} {q 
       go (inl h) = rw (eq-eqb (q .stop) 0 h, eq-eqb (p .stop) 0 g) (took-one t s x h)
       go (inr h) = rw (ne-eqb (q .stop) 0 h, eq-eqb (p .stop) 0 g) (remains inp (heads-of P) p s)
 
+-- what a reading leaves is no more than there was
+pub no-more-left : {inp : Input} {d : ℕ} {P : Part Rule} {p : Parser} {b : List ℕ} {q : Parser} {c : List ℕ} → Read inp d P p b q c → μ inp q ≤ μ inp p
+no-more-left {inp} {d} {P} {p} {b} {q} {c} x = go (goes-or-stopped (q .stop))
+  where
+    y : Became inp (reading-at inp (suc (length (rest inp p))) d P p) p b q c
+    y = x .did (suc (length (rest inp p))) (omega arith)
+
+    go : (q .stop ≡ 0) ⊎ (q .stop ≡ 0 → ⊥) → μ inp q ≤ μ inp p
+    go (inl h) = rw (eq-eqb (q .stop) 0 h, eq-eqb (p .stop) 0 (became-goes y h)) (became-no-more y)
+    go (inr h) = rw (ne-eqb (q .stop) 0 h) (omega arith)
+
 -- THE LOOP -------------------------------------------------------------------------------------------------------------
 
 abbrev turns : (n d : ℕ) → Part Rule → ℕ → List ℕ → Result
@@ -116,3 +127,7 @@ module _ {inp : Input} {d : ℕ} {P : Part Rule} where
       ends : (n m : ℕ) → length (rest inp p) < m → p .stop ≡ 0 → turns n d P m (rest inp p) ≡ done nil (rest inp p)
       ends n zero i h = let z : ⊥ = omega (arith, i) in absurd z
       ends n (suc m) i h = rw (stands-at inp (heads-of P) p s h) refl
+
+  -- a loop at whose beginning no head stands
+  pub w-none : {p : Parser} {b : List ℕ} → stands inp (heads-of P) p ≡ false → Read inp d (many P) p b p b
+  w-none s = w-done w-holds s

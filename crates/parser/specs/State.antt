@@ -1,6 +1,6 @@
 -- What reading does to a parser and the lent event words: an event is pushed, a token is passed, an opener too many stops it.
 -- Assumes nothing.
-use Prim.Native.Nat.{ℕ, _+_, _*_, _-_, _/_, min}
+use Prim.Native.Nat.{ℕ, _+_, _*_, _-_, _/_, max, min}
 use mathlib.Core.Bool.{cond}
 use mathlib.Core.List.{List, [], _∷_}
 use lib.ListN.{length, getD, set}
@@ -56,12 +56,16 @@ unfoldable pub halt : State → State
 unfolding going
 halt s = going (stopped 6) s
 
--- The token where the parser stands is passed. At most as many are counted as there can be events.
+-- One more is counted, up to as many as there can be events.
+abbrev pub counted : ℕ → ℕ
+counted n = max n (min (n + 1) most-events)
+
+-- The token where the parser stands is passed.
 abbrev pub moved-on : Place → (taken : ℕ) → Parser → Parser
 moved-on at n p = record { at = at .at; byte = at .byte; taken = n; used = p .used; left = p .left; stop = p .stop }
 
 abbrev pub passed : Input → State → State
-passed inp s = state (moved-on (next inp (s .parser)) (min (s .parser .taken + 1) most-events) (s .parser)) (s .words)
+passed inp s = state (moved-on (next inp (s .parser)) (counted (s .parser .taken)) (s .parser)) (s .words)
 
 unfoldable pub pass : Input → State → State
 unfolding going

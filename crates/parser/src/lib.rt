@@ -8,13 +8,14 @@ use syntax_kind::IDENT;
 use syntax_kind::is_keyword;
 use syntax_kind::is_trivia;
 ghost use mathlib.Core.Path.{_≡_};
-ghost use Prim.Native.Nat.{ℕ, _<_, _+_, _*_, _/_};
+ghost use Prim.Native.Nat.{ℕ, _<_, _+_, _*_, _/_, min};
 ghost use mathlib.Core.List.{List, [], _∷_};
 ghost use lib.ListN.{drop};
 ghost use Rattle.predictive.specs.Forest.{message};
 ghost use Rattle.predictive.specs.Grammar.{Choice, one, two, tok, opt, any};
 ghost use Rattle.predictive.specs.Reader.{expected};
 ghost use Rattle.predictive.specs.Events as E;
+ghost use Rattle.aadl.specs.Limits.{most-events};
 ghost use Rattle.aadl.specs.Symbols as Sym;
 ghost use Rattle.aadl.specs.Reading.{event-word};
 ghost use Rattle.aadl.specs.Section.{property-name};
@@ -36,7 +37,7 @@ pub struct Parser {
     pub taken: usize,
     pub used: usize,
     pub left: usize,
-    pub stop: u32,
+    pub stop: usize,
 }
 
 // A token's word and its start in the text.
@@ -244,6 +245,13 @@ const FINISH: u32 = 33554432;
 // an Error without its message
 const MESSAGE: u32 = 50331648;
 
+// How many of so many lent event words are used.
+fn room(lent: usize) -> usize
+    ensures { λ r. ⌜ r ≡ min lent most-events ⌝ }
+{
+    if lent < 32768 { lent } else { 32768 }
+}
+
 fn push_event(events: &mut [u32], p: Parser, w: u32) -> Parser
     ensures { λ r. ⌜ Ran (S.push w) p (now (events .entry)) r (now (events .exit)) ⌝ }
 {
@@ -251,18 +259,16 @@ fn push_event(events: &mut [u32], p: Parser, w: u32) -> Parser
         return p;
     }
     let used = p.used;
-    if used < events.len() {
-        if used < 32768 {
-            events[used] = w;
-            return Parser {
-                at: p.at,
-                byte: p.byte,
-                taken: p.taken,
-                used: used + 1,
-                left: p.left,
-                stop: p.stop,
-            };
-        }
+    if used < room(events.len()) {
+        events[used] = w;
+        return Parser {
+            at: p.at,
+            byte: p.byte,
+            taken: p.taken,
+            used: used + 1,
+            left: p.left,
+            stop: p.stop,
+        };
     }
     Parser {
         at: p.at,
@@ -387,9 +393,9 @@ pub fn pass(text: &[u8], toks: &[u32], p: Parser) -> Parser
         return p;
     }
     let s = next(text, toks, p.at, p.byte);
-    let mut taken = 32768;
-    if p.taken < 32768 {
-        taken = p.taken + 1;
+    let mut taken = p.taken;
+    if taken < 32768 {
+        taken += 1;
     }
     Parser {
         at: s.at,

@@ -21,6 +21,7 @@ use syntax_kind::COLON_COLON;
 use syntax_kind::COMMA;
 use syntax_kind::CONSTANT_KW;
 use syntax_kind::FAT_ARROW;
+use syntax_kind::IDENT;
 use syntax_kind::IN_BINDING;
 use syntax_kind::IN_KW;
 use syntax_kind::L_PAREN;
@@ -66,12 +67,22 @@ fn name_in_set(text: &[u8], toks: &[u32], events: &mut [u32], p: Parser) -> Pars
     p
 }
 
+// The first name: an identifier, in most cases, and not worth a call.
+fn first_name(text: &[u8], toks: &[u32], events: &mut [u32], p: Parser) -> Parser
+    ensures { λ r. ⌜ ((d : ℕ) → Read (input (now (text .entry)) (now (toks .entry))) d (G.property-name 3) p (now (events .entry)) r (now (events .exit))) ⌝ }
+{
+    if at(text, toks, p, IDENT) {
+        return bump(text, toks, events, p, IDENT);
+    }
+    property_name(text, toks, events, p, 3)
+}
+
 // `Name` or `PropSet::Name`.
 fn property_ref(text: &[u8], toks: &[u32], events: &mut [u32], p: Parser) -> Parser
     ensures { λ r. ⌜ ((d : ℕ) → Read (input (now (text .entry)) (now (toks .entry))) d (G.property-ref (G.property-name 3) (G.property-name 2)) p (now (events .entry)) r (now (events .exit))) ⌝ }
 {
     let s = start(events, p);
-    let p = property_name(text, toks, events, s.p, 3);
+    let p = first_name(text, toks, events, s.p);
     let p = name_in_set(text, toks, events, p);
     let c = complete(events, p, s.m, PROPERTY_REF);
     c.p
@@ -100,6 +111,20 @@ fn property_value(text: &[u8], toks: &[u32], events: &mut [u32], p: Parser) -> P
         return c.p;
     }
     p
+}
+
+// Values, with commas between them.
+fn property_values(text: &[u8], toks: &[u32], events: &mut [u32], p: Parser) -> Parser
+    ensures { λ r. ⌜ Read (input (now (text .entry)) (now (toks .entry))) (p .left) (G.commas G.value G.value) p (now (events .entry)) r (now (events .exit)) ⌝ }
+{
+    let mut v = p;
+    loop {
+        v = property_value(text, toks, events, v);
+        if !at(text, toks, v, COMMA) {
+            return v;
+        }
+        v = bump(text, toks, events, v, COMMA);
+    }
 }
 
 // `applies to` and paths, if `applies` stands.
@@ -145,12 +170,8 @@ fn property_association(text: &[u8], toks: &[u32], events: &mut [u32], p: Parser
     let p = property_ref(text, toks, events, s.p);
     let p = arrow(text, toks, events, p);
     let p = eat(text, toks, events, p, CONSTANT_KW);
-    let mut v = property_value(text, toks, events, p);
-    while at(text, toks, v, COMMA) {
-        v = bump(text, toks, events, v, COMMA);
-        v = property_value(text, toks, events, v);
-    }
-    let p = applies_to(text, toks, events, v);
+    let p = property_values(text, toks, events, p);
+    let p = applies_to(text, toks, events, p);
     let p = in_binding(text, toks, events, p);
     let p = expect(text, toks, events, p, SEMICOLON);
     let c = complete(events, p, s.m, PROPERTY_ASSOCIATION);

@@ -51,7 +51,7 @@ ghost use Rattle.predictive.specs.Grammar.{has};
 ghost use Rattle.aadl.specs.Bytes.{run, is-whitespace, not-lf};
 ghost use Rattle.aadl.specs.Tokens.{string-of, exponent-end, is-c-style, based, number-from, number-of, word-of, mark-of, token-of};
 ghost use Rattle.aadl.specs.Utf8.{_to_, fits, sequence};
-ghost use Rattle.scan.specs.Inner.{number-token, single, longest};
+ghost use Rattle.scan.specs.Inner.{number-token, radix-digit, single, longest};
 
 // The length of the whitespace at the front.
 fn scan_whitespace(s: &[u8]) -> usize
@@ -104,6 +104,19 @@ fn exponent(s: &[u8], i: usize) -> usize
     i
 }
 
+// Whether a C-style radix letter stands, and a digit of that radix after it.
+fn is_radix_digit(m: u8, b: u8) -> bool
+    ensures { λ r. ⌜ r ≡ radix-digit m b ⌝ }
+{
+    if (m == b'x') | (m == b'X') {
+        return is_hex_digit(b);
+    }
+    if (m == b'o') | (m == b'O') {
+        return (b'0' <= b) & (b <= b'7');
+    }
+    ((m == b'b') | (m == b'B')) & ((b'0' <= b) & (b <= b'1'))
+}
+
 // Whether d digits at the front are just `0`, with a C-style radix letter and a digit of that radix after it.
 fn is_c_style(s: &[u8], d: usize) -> bool
     ensures { λ r. ⌜ r ≡ is-c-style (now (s .entry)) d ⌝ }
@@ -112,12 +125,10 @@ fn is_c_style(s: &[u8], d: usize) -> bool
         return false;
     }
     let w = window_at(s, 0);
-    let m = w.second;
-    let b = w.third;
-    (w.first == b'0')
-        & ((((m == b'x') | (m == b'X')) & is_hex_digit(b))
-            | (((m == b'o') | (m == b'O')) & ((b'0' <= b) & (b <= b'7')))
-            | (((m == b'b') | (m == b'B')) & ((b'0' <= b) & (b <= b'1'))))
+    if w.first != b'0' {
+        return false;
+    }
+    is_radix_digit(w.second, w.third)
 }
 
 // Whether a byte stands anywhere in a text.

@@ -1,7 +1,7 @@
 -- What a parser over a text's tokens answers after events, its room being m more: refusal 5 where the events pushed before an opener
 -- too many outrun it, else 6 where there is such an opener, each at the start of the next token not taken; else the counts. By
 -- induction over the events. Assumes nothing.
-use Prim.Native.Nat.{ℕ, zero, suc, _+_, _≤_, _<_, min, zero-le}
+use Prim.Native.Nat.{ℕ, zero, suc, _+_, _≤_, _<_, zero-le}
 use native.Mathlib.Omega.{arith}
 use mathlib.Core.Path.{_≡_, refl, sym, ap, ap₂, _∙_}
 use mathlib.Core.Bool.{Bool, true, cond}
@@ -18,6 +18,7 @@ use Rattle.aadl.specs.Reading.{pushed}
 use Rattle.aadl.specs.Answers.{answered, refused, token-words}
 use Rattle.parser.specs.declared.Parser.{Parser}
 use Rattle.parser.specs.Input.{Input, input, next}
+use Rattle.parser.specs.State.{counted}
 use Rattle.parser.proofs.Emit.{advance}
 use Rattle.parser.proofs.Counters.{advance-stopped}
 use Rattle.section.specs.Replies.{reply}
@@ -32,7 +33,7 @@ abbrev stopped-by : ℕ → Parser → Parser
 stopped-by n p = record { at = p .at; byte = p .byte; taken = p .taken; used = p .used; left = p .left; stop = n }
 
 abbrev token-on : Input → Parser → Parser
-token-on inp p = record { at = next inp p .at; byte = next inp p .byte; taken = min (p .taken + 1) most-events; used = p .used + 1; left = p .left; stop = p .stop }
+token-on inp p = record { at = next inp p .at; byte = next inp p .byte; taken = counted (p .taken); used = p .used + 1; left = p .left; stop = p .stop }
 
 -- an event that takes no token
 pub data Plain : Event → Type 0 where

@@ -1,19 +1,25 @@
 -- The section call, way by way: the tokens-only call refused; the parser stopped; nothing is refused. Each gives the answer and every
 -- word of both lent buffers. Assumes nothing.
-use Prim.Native.Nat.{ℕ, _≤_}
+use Prim.Native.Nat.{ℕ, _≤_, min}
 use native.Mathlib.Omega.{arith}
 use mathlib.Core.Path.{_≡_, refl, sym, ap, _∙_}
-use mathlib.Core.List.{List, _++_}
+use mathlib.Core.Bool.{Bool, true, false, cond, _&&_}
+use mathlib.Core.List.{List, [], _∷_, _++_}
 use lib.ListN.{length, take, drop, replicate, length-map}
 use lib.Seq.{take-at}
-use borrow.Author.Tests.{eq-eqb, ne-eqb}
+use lib.Dec.{leb}
+use borrow.Author.Tests.{eq-eqb, ne-eqb, leb-true}
+use Rattle.predictive.specs.Events.{taken}
+use Rattle.predictive.proofs.Tests.{and-l, and-r}
 use Rattle.aadl.specs.declared.Answer.{Answer}
-use Rattle.aadl.specs.Limits.{base}
+use Rattle.aadl.specs.Limits.{base, most-events}
 use Rattle.aadl.specs.Tokens.{tokens, token-word}
-use Rattle.aadl.specs.Answers.{answered, refused, tokens-answer, section-answer, left-in, token-words, event-words}
+use Rattle.aadl.specs.Symbols.{symbols}
+use Rattle.aadl.specs.Reading.{events}
+use Rattle.aadl.specs.Answers.{Check, check, section-checks, checked, answered, refused, tokens-answer, section-answer, left-in, token-words, event-words}
 use Rattle.aadl.proofs.AnswerLaws.{left-answered}
 use Rattle.parser.specs.declared.Parser.{Parser}
-use Rattle.section.specs.Replies.{reply, Sectioned}
+use Rattle.section.specs.Replies.{reply, section-reply, Sectioned}
 use Rattle.section.proofs.Demands.{Called}
 use Rattle.section.proofs.Refusing.{text-refused, Passed, text-passed, left-by-refusal}
 
@@ -24,6 +30,27 @@ reply-stopped t p f = rw (ne-eqb (p .stop) 0 f) refl
 reply-goes : (t : ℕ) (p : Parser) → p .stop ≡ 0 → reply t p ≡ answered t (p .taken) (p .used)
 unfolding reply
 reply-goes t p e = rw (eq-eqb (p .stop) 0 e) refl
+
+-- The number of an answer is at most that of the last check.
+up-to : ℕ → List Check → Bool
+up-to k [] = true
+up-to k (check n t place ∷ cs) = leb n k && up-to k cs
+
+checked-small : (cs : List Check) (a : Answer) (k : ℕ) → up-to k cs ≡ true → a .number ≤ k → checked cs a .number ≤ k
+unfolding up-to
+checked-small [] a k u h = h
+checked-small (check n t place ∷ cs) a k u h = go t (checked-small cs a k (and-r (leb n k) (up-to k cs) u) h)
+  where
+    go : (t : Bool) → checked cs a .number ≤ k → cond t (refused n place) (checked cs a) .number ≤ k
+    go true i = leb-true n k (and-l (leb n k) (up-to k cs) u)
+    go false i = i
+
+-- So a parser that stopped did so for a small one.
+pub stopped-small : {text b : List ℕ} {p : Parser} {c : List ℕ} → Sectioned text b p c → (p .stop ≡ 0 → ⊥) → p .stop ≤ 6
+unfolding section-reply up-to
+stopped-small {text} {b} {p} x f =
+    let e = ap (λ (a : Answer). a .number) (sym (reply-stopped (length (tokens text)) p f) ∙ x .answer) in
+    omega (arith, e, checked-small (section-checks base text (min (length b) most-events)) (answered (length (tokens text)) (taken (events base (symbols text))) (length (events base (symbols text)))) 6 refl (omega arith))
 
 -- a is what the tokens-only call answered, ts the token words that it left
 module _ (text old last : List ℕ) (a : Answer) (ts : List ℕ) (e : a ≡ tokens-answer base text (length old)) (w : ts ≡ left-in a (token-words text) old) where

@@ -65,7 +65,7 @@ pub fn property_section(src: &[u8], tokens: &mut [u32], events: &mut [u32]) -> A
     let count = a.tokens;
     let p = read(src, &tokens[..count], events);
     if p.stop != 0 {
-        return refuse(tokens, events, p.stop, p.byte);
+        return refuse(tokens, events, p.stop as u32, p.byte);
     }
     Answer {
         number: 0,

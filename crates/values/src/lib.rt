@@ -82,7 +82,11 @@ fn segment(text: &[u8], toks: &[u32], events: &mut [u32], p: Parser) -> Parser
 {
     if at(text, toks, p, IDENT) {
         let p = bump(text, toks, events, p, IDENT);
-        return array_subscripts(text, toks, events, p);
+        // most names have no subscript, and are not worth a call
+        if at(text, toks, p, L_BRACKET) {
+            return array_subscripts(text, toks, events, p);
+        }
+        return p;
     }
     p
 }
@@ -92,8 +96,10 @@ fn segments(text: &[u8], toks: &[u32], events: &mut [u32], p: Parser) -> Parser
     ensures { λ r. ⌜ ((d : ℕ) → Read (input (now (text .entry)) (now (toks .entry))) d (maybe G.segments) p (now (events .entry)) r (now (events .exit))) ⌝ }
 {
     if at(text, toks, p, IDENT) {
-        let p = bump(text, toks, events, p, IDENT);
-        let mut q = array_subscripts(text, toks, events, p);
+        let mut q = bump(text, toks, events, p, IDENT);
+        if at(text, toks, q, L_BRACKET) {
+            q = array_subscripts(text, toks, events, q);
+        }
         while at(text, toks, q, DOT) {
             q = bump(text, toks, events, q, DOT);
             q = segment(text, toks, events, q);

@@ -15,7 +15,7 @@ returns c =
     let at-start = at-put .before .before in
     let at-text = at-start .before in
     let x = at-text .before .before .before .before .args in
-    let start = at-put .put .ensures ∙ ap (λ (n : ℕ). set (x .part .now) 0 n) (at-start .start-of .ensures) in (
+    let start = at-put .put .ensures ∙ ap (λ (n : ℕ). set (x .part .now) 0 n) (at-start .token-start .ensures) in (
       at-put2 .put2 .ensures ∙ ap₂ (λ (l : List ℕ) (n : ℕ). set l 1 n) start (ap length (at-text .token-text .ensures)) ∙ two-set (x .src .now) (x .words .now) (x .number) (x .part .now),
       part-is-text (x .src .now) (x .words .now) (x .number),
     )

@@ -15,14 +15,13 @@ use Rattle.parser.specs.declared.Parser.{Parser}
 use Rattle.parser.specs.Input.{input}
 use Rattle.parser.proofs.Emitted.{started-left, preceded-left, completed-left}
 use Rattle.parser.proofs.Join.{read-left, read-long, r-opt-yes, r-opt-no, r-until, r-until-at-once, r-rule, r-deep}
-use Rattle.parser.proofs.Taking.{r-fail, bumped-after}
+use Rattle.parser.proofs.Taking.{bumped-after}
 use Rattle.parser.proofs.Loops.{Turning, μ, w-holds, w-less, w-done}
 use Rattle.parser.proofs.Nodes.{o-none, x-none, x-stay}
 use Rattle.parser.proofs.Chains.{c-none, c-holds, c-less, c-done}
 use Rattle.parser.proofs.Levels.{seq-at, inside-at, node-at, again-at, link-at, turn-at, told, untold, same}
-use Rattle.categories.proofs.Words.{stands-neither}
 use Rattle.expressions.proofs.Alone.{alone, no-suffix, no-operator, left-same, operand-from, completed-long, preceded-long}
-use Rattle.expressions.proofs.Operands.{r-negated, arm, openers, others, no-operand, opened-by, opened-else, none-stands, with-booleans, opener-operand, single-operand, single-product, single-sum, factor, term, next-item, Chained}
+use Rattle.expressions.proofs.Operands.{r-negated, arm, none-begins, opened-by, opened-else, opener-operand, single-operand, single-product, single-sum, factor, term, next-item, Chained}
 use Prim.Native.Nat.{ℕ, suc, _<_, _+_, _*_}
 use borrow.Author.Needs.{needs}
 use borrow.Fn.Kinds.{In, PK}
@@ -62,21 +61,20 @@ use Rattle.expressions.proofs.at_operator.Reads as at-operator-reads
 use Rattle.expressions.proofs.at_opener.Reads as at-opener-reads
 use Rattle.expressions.proofs.at_sign.Reads as at-sign-reads
 use Rattle.expressions.proofs.closed.Reads as closed-reads
+use Rattle.expressions.proofs.kind_at.Reads as kind-at-reads
+use Rattle.expressions.proofs.no_operand.Reads as no-operand-reads
 use Rattle.expressions.proofs.operand.Reads as operand-reads
 use Rattle.grammar.proofs.classifier_value.Reads as classifier-value-reads
 use Rattle.parser.proofs.at.Reads as at-reads
 use Rattle.parser.proofs.bump.Reads as bump-reads
 use Rattle.parser.proofs.bump_any.Reads as bump-any-reads
 use Rattle.parser.proofs.complete.Reads as complete-reads
-use Rattle.parser.proofs.current.Reads as current-reads
-use Rattle.parser.proofs.error.Reads as error-reads
 use Rattle.parser.proofs.expect.Reads as expect-reads
 use Rattle.parser.proofs.precede.Reads as precede-reads
 use Rattle.parser.proofs.start.Reads as start-reads
 use Rattle.parser.proofs.too_deep.Reads as too-deep-reads
 use Rattle.parser.proofs.with_left.Reads as with-left-reads
 use Rattle.values.proofs.boolean_value.Reads as boolean-value-reads
-use Rattle.values.proofs.c_style_value.Reads as c-style-value-reads
 use Rattle.values.proofs.computed_value.Reads as computed-value-reads
 use Rattle.values.proofs.integer_value.Reads as integer-value-reads
 use Rattle.values.proofs.named_value.Reads as named-value-reads
@@ -508,8 +506,8 @@ opener-calls t = (
   too-deep-reads.Learnt,
   with-left-reads.Asked,
   with-left-reads.Learnt,
-  current-reads.Asked,
-  current-reads.Learnt,
+  kind-at-reads.Asked,
+  kind-at-reads.Learnt,
   below 12 not-value.Pre t,
   not-value.Post,
   closed-reads.Asked,
@@ -560,37 +558,37 @@ opener-done t =
     (λ c.
     let at-not-value = c .before .before .before in
     let at-match = at-not-value .before .before in
-    let at-current = at-match .before in
-    let at-with-left = at-current .before in
+    let at-kind-at = at-match .before in
+    let at-with-left = at-kind-at .before in
     let at-if1 = at-with-left .before in
-    opened-by 108 refl (λ n ys. refl) (at-if1 .if1 .left) (at-with-left .with-left .ensures) (at-current .current .ensures) (at-match .match .keys1)
+    opened-by 108 (refl, refl, refl) (λ n ys. refl) (at-if1 .if1 .left) (at-with-left .with-left .ensures) (at-kind-at .kind-at .ensures _) (at-match .match .keys1)
     (at-not-value .not-value .ensures) (c .closed .ensures))
     (λ c. search needs)
     (λ c.
     let at-list-value = c .before .before .before in
     let at-match = at-list-value .before .before in
-    let at-current = at-match .before in
-    let at-with-left = at-current .before in
+    let at-kind-at = at-match .before in
+    let at-with-left = at-kind-at .before in
     let at-if1 = at-with-left .before in
-    opened-by 10 refl (λ n ys. refl) (at-if1 .if1 .left) (at-with-left .with-left .ensures) (at-current .current .ensures) (at-match .match .keys2)
+    opened-by 10 (refl, refl, refl) (λ n ys. refl) (at-if1 .if1 .left) (at-with-left .with-left .ensures) (at-kind-at .kind-at .ensures _) (at-match .match .keys2)
     (at-list-value .list-value .ensures) (c .closed2 .ensures))
     (λ c. search needs)
     (λ c.
     let at-record-value = c .before .before .before in
     let at-match = at-record-value .before .before in
-    let at-current = at-match .before in
-    let at-with-left = at-current .before in
+    let at-kind-at = at-match .before in
+    let at-with-left = at-kind-at .before in
     let at-if1 = at-with-left .before in
-    opened-by 14 refl (λ n ys. refl) (at-if1 .if1 .left) (at-with-left .with-left .ensures) (at-current .current .ensures) (at-match .match .keys3)
+    opened-by 14 (refl, refl, refl) (λ n ys. refl) (at-if1 .if1 .left) (at-with-left .with-left .ensures) (at-kind-at .kind-at .ensures _) (at-match .match .keys3)
     (at-record-value .record-value .ensures) (c .closed3 .ensures))
     (λ c. search needs)
     (λ c.
     let at-signed = c .before .before .before in
     let at-match = at-signed .before .before in
-    let at-current = at-match .before in
-    let at-with-left = at-current .before in
+    let at-kind-at = at-match .before in
+    let at-with-left = at-kind-at .before in
     let at-if1 = at-with-left .before in
-    opened-else (at-if1 .if1 .left) (at-with-left .with-left .ensures) (at-current .current .ensures) (at-match .match .rest)
+    opened-else (at-if1 .if1 .left) (at-with-left .with-left .ensures) (at-kind-at .kind-at .ensures _) (at-match .match .rest)
     (at-signed .signed .ensures) (c .closed4 .ensures))
 
 abbrev property-expression-calls : ℕ → property-expression-lts.Claims
@@ -637,8 +635,8 @@ property-expression-primary-calls t = (
   at-opener-reads.Learnt,
   below 0 opener.Pre t,
   opener.Post,
-  current-reads.Asked,
-  current-reads.Learnt,
+  kind-at-reads.Asked,
+  kind-at-reads.Learnt,
   boolean-value-reads.Asked,
   boolean-value-reads.Learnt,
   operand-reads.Asked,
@@ -657,10 +655,8 @@ property-expression-primary-calls t = (
   computed-value-reads.Learnt,
   named-value-reads.Asked,
   named-value-reads.Learnt,
-  c-style-value-reads.Asked,
-  c-style-value-reads.Learnt,
-  error-reads.Asked,
-  error-reads.Learnt,
+  no-operand-reads.Asked,
+  no-operand-reads.Learnt,
 )
 
 property-expression-primary-done : {M : Type 1} (t : ℕ) →
@@ -683,78 +679,66 @@ property-expression-primary-done t =
     (λ c.
     let at-boolean-value = c .before .before .before in
     let at-if2 = at-boolean-value .before .before in
-    let at-current = at-if2 .before in
+    let at-kind-at = at-if2 .before in
     ⊎-elim
-    (λ e. arm 106 refl (λ n ys. refl) (at-current .current .ensures) (eqb-true _ 106 e) (at-boolean-value .boolean-value .ensures _) (c .operand .ensures))
-    (λ e. arm 107 refl (λ n ys. refl) (at-current .current .ensures) (eqb-true _ 107 e) (at-boolean-value .boolean-value .ensures _) (c .operand .ensures))
-    (or-cases (eqb (at-current .current .result) 106) (eqb (at-current .current .result) 107) (at-if2 .if2 .taken)))
+    (λ e. arm 106 (refl, refl, refl) (λ n ys. refl) (at-kind-at .kind-at .ensures _) (eqb-true _ 106 e) (at-boolean-value .boolean-value .ensures _) (c .operand .ensures))
+    (λ e. arm 107 (refl, refl, refl) (λ n ys. refl) (at-kind-at .kind-at .ensures _) (eqb-true _ 107 e) (at-boolean-value .boolean-value .ensures _) (c .operand .ensures))
+    (or-cases (eqb (at-kind-at .kind-at .result) 106) (eqb (at-kind-at .kind-at .result) 107) (at-if2 .if2 .taken)))
     (λ c κs. search needs) (λ c κs. search needs) (λ c κs. search needs) (λ c κs. search needs) (λ c κs. search needs) (λ c κs. search needs)
     (λ c κs. search needs) (λ c κs. search needs) (λ c κs. search needs) (λ c κs. search needs) (λ c κs. search needs) (λ c κs. search needs)
-    (λ c κs. search needs) (λ c κs. search needs) (λ c κs. search needs) (λ c κs. search needs) (λ c κs. search needs)
+    (λ c κs. search needs) (λ c κs. search needs)
+    (λ c κs.
+    let at-if2 = c .before .before in
+    let at-kind-at = at-if2 .before in
+    let at-if1 = at-kind-at .before in
+    let at-at-opener = at-if1 .before in
+    let a = at-at-opener .before .before .before .before .args in
+    let x = at-kind-at .kind-at .result in none-begins (input (a .text .now) (a .toks .now)) (a .p) (at-kind-at .kind-at .ensures _) (sym (at-at-opener .at-opener .ensures) ∙ at-if1 .if1 .left)
+    (or-l (eqb x 106) (eqb x 107) (at-if2 .if2 .left)) (or-r (eqb x 106) (eqb x 107) (at-if2 .if2 .left)) (c .before .match .rest))
     (λ c. search needs)
     (λ c.
     let at-integer-value = c .before .before .before in
     let at-match = at-integer-value .before .before in
-    let at-current = at-match .before .before in
-    arm 30 refl (λ n ys. refl) (at-current .current .ensures) (at-match .match .keys1) (at-integer-value .integer-value .ensures _) (c .operand2 .ensures))
+    let at-kind-at = at-match .before .before in
+    arm 30 (refl, refl, refl) (λ n ys. refl) (at-kind-at .kind-at .ensures _) (at-match .match .keys1) (at-integer-value .integer-value .ensures _) (c .operand2 .ensures))
     (λ c. search needs)
     (λ c.
     let at-real-value = c .before .before .before in
     let at-match = at-real-value .before .before in
-    let at-current = at-match .before .before in
-    arm 31 refl (λ n ys. refl) (at-current .current .ensures) (at-match .match .keys2) (at-real-value .real-value .ensures _) (c .operand3 .ensures))
+    let at-kind-at = at-match .before .before in
+    arm 31 (refl, refl, refl) (λ n ys. refl) (at-kind-at .kind-at .ensures _) (at-match .match .keys2) (at-real-value .real-value .ensures _) (c .operand3 .ensures))
     (λ c. search needs)
     (λ c.
     let at-string-value = c .before .before .before in
     let at-match = at-string-value .before .before in
-    let at-current = at-match .before .before in
-    arm 32 refl (λ n ys. refl) (at-current .current .ensures) (at-match .match .keys3) (at-string-value .string-value .ensures _) (c .operand4 .ensures))
+    let at-kind-at = at-match .before .before in
+    arm 32 (refl, refl, refl) (λ n ys. refl) (at-kind-at .kind-at .ensures _) (at-match .match .keys3) (at-string-value .string-value .ensures _) (c .operand4 .ensures))
     (λ c. search needs)
     (λ c.
     let at-classifier-value = c .before .before .before in
     let at-match = at-classifier-value .before .before in
-    let at-current = at-match .before .before in
-    arm 91 refl (λ n ys. refl) (at-current .current .ensures) (at-match .match .keys4) (at-classifier-value .classifier-value .ensures) (c .operand5 .ensures))
+    let at-kind-at = at-match .before .before in
+    arm 91 (refl, refl, refl) (λ n ys. refl) (at-kind-at .kind-at .ensures _) (at-match .match .keys4) (at-classifier-value .classifier-value .ensures) (c .operand5 .ensures))
     (λ c. search needs)
     (λ c.
     let at-reference-value = c .before .before .before in
     let at-match = at-reference-value .before .before in
-    let at-current = at-match .before .before in
-    arm 92 refl (λ n ys. refl) (at-current .current .ensures) (at-match .match .keys5) (at-reference-value .reference-value .ensures _) (c .operand6 .ensures))
+    let at-kind-at = at-match .before .before in
+    arm 92 (refl, refl, refl) (λ n ys. refl) (at-kind-at .kind-at .ensures _) (at-match .match .keys5) (at-reference-value .reference-value .ensures _) (c .operand6 .ensures))
     (λ c. search needs)
     (λ c.
     let at-computed-value = c .before .before .before in
     let at-match = at-computed-value .before .before in
-    let at-current = at-match .before .before in
-    arm 94 refl (λ n ys. refl) (at-current .current .ensures) (at-match .match .keys6) (at-computed-value .computed-value .ensures _) (c .operand7 .ensures))
+    let at-kind-at = at-match .before .before in
+    arm 94 (refl, refl, refl) (λ n ys. refl) (at-kind-at .kind-at .ensures _) (at-match .match .keys6) (at-computed-value .computed-value .ensures _) (c .operand7 .ensures))
     (λ c. search needs)
     (λ c.
     let at-named-value = c .before .before .before in
     let at-match = at-named-value .before .before in
-    let at-current = at-match .before .before in
-    arm 33 refl (λ n ys. refl) (at-current .current .ensures) (at-match .match .keys7) (at-named-value .named-value .ensures _) (c .operand8 .ensures))
+    let at-kind-at = at-match .before .before in
+    arm 33 (refl, refl, refl) (λ n ys. refl) (at-kind-at .kind-at .ensures _) (at-match .match .keys7) (at-named-value .named-value .ensures _) (c .operand8 .ensures))
     (λ c. search needs)
-    (λ c.
-    let at-c-style-value = c .before .before .before in
-    let at-match = at-c-style-value .before .before in
-    let at-current = at-match .before .before in
-    arm 258 refl (λ n ys. refl) (at-current .current .ensures) (at-match .match .keys8) (at-c-style-value .c-style-value .ensures _) (c .operand9 .ensures))
-    (λ c. search needs)
-    (λ c.
-    let at-error = c .before .before in
-    let at-match = at-error .before .before in
-    let at-if2 = at-match .before in
-    let at-current = at-if2 .before in
-    let at-if1 = at-current .before in
-    let at-at-opener = at-if1 .before in
-    let at-args = at-at-opener .before .before .before .before in
-    let a = (at-args .args) in
-    let x = at-current .current .result in no-operand
-    (stands-neither (input (a .text .now) (a .toks .now)) (ones openers) (ones others) (a .p)
-    (sym (at-at-opener .at-opener .ensures) ∙ at-if1 .if1 .left)
-    (none-stands (input (a .text .now) (a .toks .now)) (a .p) others refl (at-current .current .ensures)
-    (with-booleans (or-l (eqb x 106) (eqb x 107) (at-if2 .if2 .left)) (or-r (eqb x 106) (eqb x 107) (at-if2 .if2 .left)) (at-match .match .rest))))
-    (r-fail (at-error .error .ensures)))
+    (λ c. c .before .before .no-operand .ensures _)
 
 abbrev range-calls : ℕ → range-lts.Claims
 range-calls t = (

@@ -1,9 +1,12 @@
--- The sum of the lengths of the words before `k`, at most the cap (TextLaws). The measure is what is left of the number. Assumes nothing.
-use Prim.Native.Nat.{_≤_, _-_, _+_, min}
-use mathlib.Core.Path.{_≡_, refl}
+-- The sum of the lengths of the words before `k`, at most the cap (TextLaws); past the words there is nothing to add. The measure is what
+-- is left of the number. Assumes nothing.
+use Prim.Native.Nat.{ℕ, _≤_, _-_, _+_, min}
+use mathlib.Core.Path.{_≡_, refl, ap, _∙_}
+use mathlib.Core.List.{List, []}
 use native.Mathlib.Omega.{arith}
 use native.Mathlib.Nat.{sub-zero, zero-add}
-use lib.ListN.{drop, take}
+use lib.ListN.{drop, take, drop-of-length-le}
+use lib.Seq.{take-nil}
 use Rattle.aadl.specs.Tokens.{total}
 use Rattle.lexer.proofs.TextLaws.{total-step}
 use borrow.Author.Needs.{needs}
@@ -22,14 +25,23 @@ loop-holds c =
     let a = c .before .args in
     (rw (sub-zero (a .number), zero-add (total (take (a .number) (a .words .now)))) refl, search needs, search needs)
 
-loop-again : tie.Need-loop-again Inv-loop μ-loop
-loop-again c =
-    let a = c .before .before .before .before .before .args in
-    let l = c .before .before .before .loop in
-    (omega (arith, total-step (a .words .now) (a .number) (l .k) (search needs) (search needs)), search needs, search needs)
-
 returns : tie.Need-returns Inv-loop μ-loop
 returns c =
+    let a = c .before .before .before .before .args in
+    let l = c .before .before .loop in
+    let none : drop (l .k) (a .words .now) ≡ [] = drop-of-length-le (a .words .now) (c .if1 .taken) in
+    let z : total (take (a .number - l .k) (drop (l .k) (a .words .now))) ≡ 0 =
+    ap (λ (ws : List ℕ). total (take (a .number - l .k) ws)) none ∙ ap total (take-nil (a .number - l .k)) in
+    omega (arith, z, l .inv .0)
+
+loop-again : tie.Need-loop-again Inv-loop μ-loop
+loop-again c =
+    let a = c .before .before .before .before .before .before .args in
+    let l = c .before .before .before .before .loop in
+    (omega (arith, total-step (a .words .now) (a .number) (l .k) (search needs) (search needs)), search needs, search needs)
+
+returns-2 : tie.Need-returns-2 Inv-loop μ-loop
+returns-2 c =
     let l = c .before .loop in
     let z : c .before .before .before .args .number - l .k ≡ 0 = omega arith in
     omega (arith, rw z at (l .inv .0))
@@ -41,6 +53,7 @@ token-start-spec =
     Inv-loop
     μ-loop
     loop-holds
+    returns
     (λ c. search needs)
     (λ c. search needs)
     (λ c. search needs)
@@ -48,4 +61,4 @@ token-start-spec =
     (λ c. search needs)
     (λ c. search needs)
     loop-again
-    returns)
+    returns-2)

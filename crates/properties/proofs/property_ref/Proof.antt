@@ -8,9 +8,9 @@ returns : tie.Need-returns
 returns c =
     let at-complete = c .before .before .before in
     let at-name-in-set = at-complete .before .before .before .before in
-    let at-property-name = at-name-in-set .before .before .before .before in
-    let at-start = at-property-name .before .before .before .before in
-    λ d. r-inside (at-start .start .ensures) (r-seq (at-property-name .property-name .ensures d) (at-name-in-set .name-in-set .ensures d))
+    let at-first-name = at-name-in-set .before .before .before .before in
+    let at-start = at-first-name .before .before .before .before in
+    λ d. r-inside (at-start .start .ensures) (r-seq (at-first-name .first-name .ensures d) (at-name-in-set .name-in-set .ensures d))
     (at-complete .complete .ensures)
 
 pub property-ref-spec : {M : Type 1} → statement M

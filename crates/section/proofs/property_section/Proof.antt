@@ -1,10 +1,11 @@
 -- The call, way by way (Answering): the tokens-only call refused, the parser stopped, or nothing is refused. The words that the
 -- tokens-only call counted are within those lent, and are the text's. Assumes nothing.
 use mathlib.Core.Path.{sym}
+use native.Mathlib.Omega.{arith}
 use lib.Seq.{length-take-le}
 use borrow.Author.Needs.{needs}
 use Rattle.section.proofs.Demands.{every-reading-is-derived}
-use Rattle.section.proofs.Answering.{called-refused, passed-short, passed-fits, passed-words, called-stopped, called-answered}
+use Rattle.section.proofs.Answering.{stopped-small, called-refused, passed-short, passed-fits, passed-words, called-stopped, called-answered}
 use Rattle.section.proofs.property_section.Statement.{statement}
 use Rattle.section.proofs.property_section.Tie as tie
 
@@ -37,10 +38,16 @@ read-requires c κs =
       passed-words (at-args .args .src .now) (at-args .args .tokens .now) (at-args .args .events .now) (at-tokenize .tokenize .result) _ (at-tokenize .tokenize .ensures .0) (at-tokenize .tokenize .ensures .1) (at-if1 .if1 .left),
     )
 
+number-fits : tie.Need-cast-refuse
+number-fits c =
+    let at-if2 = c .before .before .before in
+    let at-read = at-if2 .before .before .before .before in
+    omega (arith, stopped-small (at-read .read .ensures) (at-if2 .if2 .taken))
+
 returns-2 : tie.Need-returns-2
 returns-2 c =
     let at-refuse = c .before .before .before .before in
-    let at-if2 = at-refuse .before .before .before in
+    let at-if2 = at-refuse .before .before .before .before in
     let at-read = at-if2 .before .before .before .before in
     let at-if1 = at-read .before .before .before in
     let at-tokenize = at-if1 .before .before .before .before in
@@ -70,6 +77,7 @@ property-section-spec =
     count-fits
     count-is
     read-requires
+    number-fits
     (λ c κs. search needs)
     (λ c. search needs)
     (λ c. search needs)
