@@ -1,4 +1,5 @@
--- Numbers by their digits: where nothing that may belong to a number stands behind the digits at a place, they are an integer. Assumes nothing.
+-- Numbers by their digits: where nothing that may belong to a number stands behind the digits at a place, they are an integer; a C-style
+-- literal is the whole run of letters, digits and `_`. Assumes nothing.
 use Prim.Native.Nat.{ℕ, suc, _+_, _-_, _≤_, _<_}
 use native.Mathlib.Omega.{arith}
 use mathlib.Core.Path.{_≡_, refl, sym, ap, _∙_}
@@ -9,15 +10,16 @@ use lib.Seq.{getD-drop}
 use lib.Dec.{eqb, leb, ltb}
 use borrow.Author.Tests.{not-true, leb-true, leb-false}
 use Rattle.predictive.proofs.Tests.{and-l, and-r, and-false-l, and-false-r}
-use Rattle.aadl.specs.Kinds.{#_, INTEGER-LIT}
-use Rattle.aadl.specs.Bytes.{peek, is-digit, is-exponent, is-grouped, run, run-end}
+use Rattle.aadl.specs.Kinds.{#_, ERROR, INTEGER-LIT}
+use Rattle.aadl.specs.Bytes.{peek, is-digit, is-ident-continue, is-exponent, is-grouped, run, run-end}
 use Rattle.aadl.specs.Tokens.{token, marks, is-c-style, number-from, number-of, token-of}
 use Rattle.aadl.proofs.RunLaws.{run-end-from, run-rest, run-stop, run-over}
 use Rattle.aadl.proofs.Bools.{below, below-at}
 use Rattle.runs.specs.Classes.{class-of, class-table}
 use Rattle.runs.proofs.ClassTable.{class-at}
 use Rattle.scan.specs.Inner.{number-token}
-use Rattle.lexer.proofs.FirstByte.{or-implied, digit-run, number-is}
+use Rattle.scan.proofs.NumberLaws.{c-style-number}
+use Rattle.lexer.proofs.FirstByte.{or-implied, digit-run, literal-run, number-is}
 
 -- a byte that is no radix letter, no exponent's, no digit and no `_`
 abbrev quiet : ℕ → Bool
@@ -86,6 +88,11 @@ module _ (s : List ℕ) (i e : ℕ) (h : i < length s) (l : getD s i 0 < 256) (k
   pub digits-token : number-token (number-from (drop i s) (e - i)) ≡ token-of (drop i s)
   unfolding number-of
   digits-token = ap (λ (n : ℕ). number-token (number-from (drop i s) n)) count ∙ number-is s i h l k
+
+  -- A C-style literal is the whole run of letters, digits and `_`.
+  pub c-style-token : (r : ℕ) → r ≡ run-end is-ident-continue s (i + 1) → is-c-style (drop i s) (e - i) ≡ true → token (# ERROR) (r - i) ≡ token-of (drop i s)
+  c-style-token r w t =
+      ap (token (# ERROR)) (ap (λ (n : ℕ). n - i) (w ∙ literal-run s i h l k) ∙ run-rest is-ident-continue s i) ∙ c-style-number (drop i s) (e - i) t ∙ digits-token
 
   pub integer-token : (c : ℕ) → c < 256 → c ≡ getD s e 0 → ltb (getD class-table c 0) 60 ≡ true → eqb c 35 ≡ false → eqb c 46 ≡ false →
       token (# INTEGER-LIT) (e - i) ≡ token-of (drop i s)

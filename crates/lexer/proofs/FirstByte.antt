@@ -53,6 +53,11 @@ module _ (s : List ℕ) (i : ℕ) (h : i < length s) (l : getD s i 0 < 256) wher
   unfolding marks
   digit-run e = run-on 60 is-digit refl e
 
+  -- a number's letters go on from its first digit
+  pub literal-run : getD class-table (getD s i 0) 0 ≡ 60 → run-end is-ident-continue s (i + 1) ≡ run-end is-ident-continue s i
+  unfolding marks
+  literal-run e = run-on 60 is-ident-continue refl e
+
   pub word-token : getD class-table (getD s i 0) 0 ≡ 61 → word-of (drop i s) ≡ token-of (drop i s)
   unfolding token-of marks
   word-token e =

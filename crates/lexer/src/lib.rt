@@ -15,12 +15,14 @@ use runs::next_byte;
 use runs::skip_ascii;
 use runs::white_end;
 use runs::word_end;
+use scan::is_c_style;
 use scan::scan_number_from;
 use scan::scan_sequence;
 use scan::scan_token;
 use syntax_kind::COLON_COLON;
 use syntax_kind::COMMENT;
 use syntax_kind::DOT_DOT;
+use syntax_kind::ERROR;
 use syntax_kind::FAT_ARROW;
 use syntax_kind::INTEGER_LIT;
 use syntax_kind::STRING_LIT;
@@ -129,7 +131,8 @@ fn scan_other(s: &[u8], at: usize, k: u8, classes: &[u8; 256]) -> Token
     scan_pair(s, at)
 }
 
-// The number that begins at a place: digits behind which no letter, digit, `_`, `#` or `.` stands; any other by the plain scanner.
+// The number that begins at a place: digits behind which no letter, digit, `_`, `#` or `.` stands, and C-style literals; any other by the
+// plain scanner.
 fn scan_digits(s: &[u8], at: usize, classes: &[u8; 256]) -> Token
     requires { ⌜ (at < length (now s)) × (now classes ≡ class-table) × (getD class-table (getD (now s) at 0) 0 ≡ 60) ⌝ }
     ensures { λ r. ⌜ r ≡ token-of (drop at (now (s .entry))) ⌝ }
@@ -140,6 +143,12 @@ fn scan_digits(s: &[u8], at: usize, classes: &[u8; 256]) -> Token
         return Token {
             kind: INTEGER_LIT,
             len: e - at,
+        };
+    }
+    if is_c_style(&s[at..], e - at) {
+        return Token {
+            kind: ERROR,
+            len: word_end(s, at + 1, classes) - at,
         };
     }
     scan_number_from(&s[at..], e - at)

@@ -81,10 +81,6 @@ module _ {inp : Input} {p : Parser} {b : List ℕ} {r : Parser} {c : List ℕ} w
   pub at-level : {d e : ℕ} {P : Part Rule} → d ≡ e → Read inp d P p b r c → Read inp e P p b r c
   at-level {d} {e} {P} q x = subst (λ (n : ℕ). Read inp n P p b r c) q x
 
-  -- where two ways meet, the parser and the words are those of the way that was taken
-  pub r-met : {d : ℕ} {P : Part Rule} {q : Parser} {e : List ℕ} → e ≡ c → q ≡ r → Read inp d P p b r c → Read inp d P p b q e
-  r-met {d} {P} {q} {e} f g x = subst (λ (t : Parser). Read inp d P p b t e) (sym g) (subst (λ (t : List ℕ). Read inp d P p b r t) (sym f) x)
-
 -- ONE AFTER THE OTHER --------------------------------------------------------------------------------------------------
 
 -- What was read by o, and then by k of what o left.
@@ -135,6 +131,11 @@ module _ {inp : Input} {d : ℕ} {c : Choice} {P : Part Rule} {p : Parser} {b : 
   pub r-opt-sure : {r : Parser} {e : List ℕ} → stands inp (heads-of P) p ≡ true → Read inp d (opt c P) p b r e → Read inp d P p b r e
   unfolding read step
   r-opt-sure s x = r-same (λ n h. rw (stands-at inp (heads-of P) p s h) refl) x
+
+  -- the same before another part
+  pub r-opt-first-sure : {Q : Part Rule} {r : Parser} {e : List ℕ} → stands inp (heads-of P) p ≡ true → Read inp d (seq (opt c P) Q) p b r e → Read inp d (seq P Q) p b r e
+  unfolding read step
+  r-opt-first-sure s x = r-same (λ n h. rw (stands-at inp (heads-of P) p s h) refl) x
 
   pub r-opt-no : stands inp (heads-of P) p ≡ false → Read inp d (opt c P) p b p b
   unfolding read step

@@ -127,7 +127,3 @@ module _ {inp : Input} {d : ℕ} {P : Part Rule} where
       ends : (n m : ℕ) → length (rest inp p) < m → p .stop ≡ 0 → turns n d P m (rest inp p) ≡ done nil (rest inp p)
       ends n zero i h = let z : ⊥ = omega (arith, i) in absurd z
       ends n (suc m) i h = rw (stands-at inp (heads-of P) p s h) refl
-
-  -- a loop at whose beginning no head stands
-  pub w-none : {p : Parser} {b : List ℕ} → stands inp (heads-of P) p ≡ false → Read inp d (many P) p b p b
-  w-none s = w-done w-holds s

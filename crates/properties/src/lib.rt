@@ -127,6 +127,20 @@ fn property_values(text: &[u8], toks: &[u32], events: &mut [u32], p: Parser) -> 
     }
 }
 
+// Paths, with commas between them.
+fn paths(text: &[u8], toks: &[u32], events: &mut [u32], p: Parser) -> Parser
+    ensures { λ r. ⌜ ((d : ℕ) → Read (input (now (text .entry)) (now (toks .entry))) d (G.commas G.path G.path) p (now (events .entry)) r (now (events .exit))) ⌝ }
+{
+    let mut q = p;
+    loop {
+        q = containment_path(text, toks, events, q);
+        if !at(text, toks, q, COMMA) {
+            return q;
+        }
+        q = bump(text, toks, events, q, COMMA);
+    }
+}
+
 // `applies to` and paths, if `applies` stands.
 fn applies_to(text: &[u8], toks: &[u32], events: &mut [u32], p: Parser) -> Parser
     ensures { λ r. ⌜ ((d : ℕ) → Read (input (now (text .entry)) (now (toks .entry))) d (maybe G.applies-to) p (now (events .entry)) r (now (events .exit))) ⌝ }
@@ -135,12 +149,8 @@ fn applies_to(text: &[u8], toks: &[u32], events: &mut [u32], p: Parser) -> Parse
         let s = start(events, p);
         let p = bump(text, toks, events, s.p, APPLIES_KW);
         let p = expect(text, toks, events, p, TO_KW);
-        let mut q = containment_path(text, toks, events, p);
-        while at(text, toks, q, COMMA) {
-            q = bump(text, toks, events, q, COMMA);
-            q = containment_path(text, toks, events, q);
-        }
-        let c = complete(events, q, s.m, APPLIES_TO);
+        let p = paths(text, toks, events, p);
+        let c = complete(events, p, s.m, APPLIES_TO);
         return c.p;
     }
     p

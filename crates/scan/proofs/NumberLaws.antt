@@ -8,8 +8,9 @@ use mathlib.Core.List.{List}
 use lib.Dec.{eqb}
 use borrow.Author.Tests.{eqb-true}
 use Rattle.predictive.proofs.Tests.{or-cases}
-use Rattle.aadl.specs.Bytes.{peek, within, is-hex-digit, is-based, run-end}
-use Rattle.aadl.specs.Tokens.{based-to, based}
+use Rattle.aadl.specs.Bytes.{peek, within, is-hex-digit, is-ident-continue, is-based, run, run-end}
+use Rattle.aadl.specs.Kinds.{#_, ERROR}
+use Rattle.aadl.specs.Tokens.{token, is-c-style, number-from, based-to, based}
 use Rattle.scan.specs.Inner.{number-token, radix-digit}
 
 -- C-STYLE --------------------------------------------------------------------------------------------------------------
@@ -27,6 +28,11 @@ module _ (m b : ℕ) where
 
   pub radix-2 : (eqb m 120 || eqb m 88) ≡ false → (eqb m 111 || eqb m 79) ≡ false → ((eqb m 98 || eqb m 66) && within 48 49 b) ≡ radix-digit m b
   radix-2 x o = rw (x, o) refl
+
+-- what such a literal is
+pub c-style-number : (bs : List ℕ) (d : ℕ) → is-c-style bs d ≡ true → token (# ERROR) (run is-ident-continue bs) ≡ number-token (number-from bs d)
+unfolding number-from
+c-style-number bs d e = rw e refl
 
 -- BASES ----------------------------------------------------------------------------------------------------------------
 

@@ -44,6 +44,7 @@ use syntax_kind::STAR;
 use syntax_kind::STRING_LIT;
 use syntax_kind::WHITESPACE;
 ghost use mathlib.Core.Path.{_≡_};
+ghost use mathlib.Core.Bool.{false};
 ghost use mathlib.Core.List.{[], _∷_};
 ghost use Prim.Native.Nat.{_≤_};
 ghost use lib.ListN.{length};
@@ -118,7 +119,7 @@ fn is_radix_digit(m: u8, b: u8) -> bool
 }
 
 // Whether d digits at the front are just `0`, with a C-style radix letter and a digit of that radix after it.
-fn is_c_style(s: &[u8], d: usize) -> bool
+pub fn is_c_style(s: &[u8], d: usize) -> bool
     ensures { λ r. ⌜ r ≡ is-c-style (now (s .entry)) d ⌝ }
 {
     if d != 1 {
@@ -168,17 +169,11 @@ fn scan_based(s: &[u8], i: usize) -> Token
     }
 }
 
-// A number that begins with d decimal digits: the first case that fits.
+// A number that begins with d decimal digits and is no C-style literal: the first case that fits.
 pub fn scan_number_from(s: &[u8], d: usize) -> Token
-    requires { ⌜ d ≤ length (now s) ⌝ }
+    requires { ⌜ (d ≤ length (now s)) × (is-c-style (now s) d ≡ false) ⌝ }
     ensures { λ r. ⌜ r ≡ number-token (number-from (now (s .entry)) d) ⌝ }
 {
-    if is_c_style(s, d) {
-        return Token {
-            kind: ERROR,
-            len: take_while(s, 0, Class::Word),
-        };
-    }
     if at(s, d, Class::Is(b'#')) {
         return scan_based(s, d + 1);
     }
@@ -204,7 +199,14 @@ pub fn scan_number_from(s: &[u8], d: usize) -> Token
 fn scan_number(s: &[u8]) -> Token
     ensures { λ r. ⌜ r ≡ number-token (number-of (now (s .entry))) ⌝ }
 {
-    scan_number_from(s, take_while(s, 0, Class::Digit))
+    let d = take_while(s, 0, Class::Digit);
+    if is_c_style(s, d) {
+        return Token {
+            kind: ERROR,
+            len: take_while(s, 0, Class::Word),
+        };
+    }
+    scan_number_from(s, d)
 }
 
 // The word at the front: a keyword, or an identifier.

@@ -82,11 +82,7 @@ fn segment(text: &[u8], toks: &[u32], events: &mut [u32], p: Parser) -> Parser
 {
     if at(text, toks, p, IDENT) {
         let p = bump(text, toks, events, p, IDENT);
-        // most names have no subscript, and are not worth a call
-        if at(text, toks, p, L_BRACKET) {
-            return array_subscripts(text, toks, events, p);
-        }
-        return p;
+        return array_subscripts(text, toks, events, p);
     }
     p
 }
@@ -95,18 +91,17 @@ fn segment(text: &[u8], toks: &[u32], events: &mut [u32], p: Parser) -> Parser
 fn segments(text: &[u8], toks: &[u32], events: &mut [u32], p: Parser) -> Parser
     ensures { λ r. ⌜ ((d : ℕ) → Read (input (now (text .entry)) (now (toks .entry))) d (maybe G.segments) p (now (events .entry)) r (now (events .exit))) ⌝ }
 {
-    if at(text, toks, p, IDENT) {
-        let mut q = bump(text, toks, events, p, IDENT);
-        if at(text, toks, q, L_BRACKET) {
-            q = array_subscripts(text, toks, events, q);
-        }
-        while at(text, toks, q, DOT) {
-            q = bump(text, toks, events, q, DOT);
+    let mut q = p;
+    if at(text, toks, q, IDENT) {
+        loop {
             q = segment(text, toks, events, q);
+            if !at(text, toks, q, DOT) {
+                return q;
+            }
+            q = bump(text, toks, events, q, DOT);
         }
-        return q;
     }
-    p
+    q
 }
 
 // A path, which may have no segment: `sub1.sub2[1].feature`.

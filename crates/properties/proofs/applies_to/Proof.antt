@@ -1,69 +1,27 @@
--- `applies`, `to`, a path and a loop over further ones (Loops), in a node, where `applies` stands. Assumes nothing.
-use mathlib.Core.Path.{refl, sym, _∙_}
-use Prim.Native.Nat.{ℕ}
-use Rattle.predictive.specs.Grammar.{seq}
+-- `applies`, `to` and paths, in a node, where `applies` stands. Assumes nothing.
+use mathlib.Core.Path.{sym, _∙_}
 use Rattle.predictive.specs.Reader.{ones, first, null}
-use Rattle.predictive.proofs.Takes.{takes}
-use Rattle.parser.specs.Input.{input}
-use Rattle.aadl.specs.Section as G
-use Rattle.aadl.specs.Kinds.{COMMA}
 use Rattle.parser.proofs.Join.{read-long, r-seq, r-opt-yes, r-opt-no, r-inside}
-use Rattle.parser.proofs.Loops.{Turning, μ, w-holds, w-again, w-less, w-done}
 use borrow.Author.Needs.{needs}
 use Rattle.properties.proofs.applies_to.Statement.{statement}
 use Rattle.properties.proofs.applies_to.Tie as tie
 
-abbrev Inv-loop : tie.InvT-loop
-Inv-loop text toks events₀ s q₀ events q = (d : ℕ) → Turning (input text toks) d (seq (G.token COMMA) G.path) q₀ events₀ q events
-
-abbrev μ-loop : tie.MeasureT-loop
-μ-loop text toks events₀ s q₀ events q = μ (input text toks) q
-
-loop-holds : tie.Need-loop-holds Inv-loop μ-loop
-loop-holds c = λ d. w-holds
-
-loop-less : tie.Need-loop-less Inv-loop μ-loop
-unfolding ones first null takes
-loop-less c =
-    let at-containment-path2 = c .before .before in
-    let at-bump2 = at-containment-path2 .before .before .before .before in
-    let at-if2 = at-bump2 .before .before in
-    let at-at2 = at-if2 .before in
-    let d : ℕ = 0 in w-less {P = seq (G.token COMMA) G.path} refl (sym (at-at2 .at2 .ensures) ∙ at-if2 .if2 .taken)
-    (r-seq (at-bump2 .bump2 .ensures d) (at-containment-path2 .containment-path2 .ensures d))
-
-loop-again : tie.Need-loop-again Inv-loop μ-loop
-unfolding ones first null takes
-loop-again c =
-    let at-containment-path2 = c .before .before in
-    let at-bump2 = at-containment-path2 .before .before .before .before in
-    let at-if2 = at-bump2 .before .before in
-    let at-at2 = at-if2 .before in
-    let at-loop = at-at2 .before in
-    λ d. w-again refl (at-loop .loop .inv d) (sym (at-at2 .at2 .ensures) ∙ at-if2 .if2 .taken)
-    (r-seq (at-bump2 .bump2 .ensures d) (at-containment-path2 .containment-path2 .ensures d))
-
-returns : tie.Need-returns Inv-loop μ-loop
+returns : tie.Need-returns
 unfolding ones first null
 returns c =
     let at-complete = c .before .before .before in
-    let at-if2 = at-complete .before .before in
-    let at-at2 = at-if2 .before in
-    let at-loop = at-at2 .before in
-    let at-containment-path = at-loop .before .before .before in
-    let at-expect = at-containment-path .before .before .before .before in
+    let at-paths = at-complete .before .before .before .before in
+    let at-expect = at-paths .before .before .before .before in
     let at-bump = at-expect .before .before .before .before in
     let at-start = at-bump .before .before .before .before in
     let at-if1 = at-start .before .before in
     let at-at = at-if1 .before in
     λ d. r-opt-yes (sym (at-at .at .ensures) ∙ at-if1 .if1 .taken)
     (r-inside (at-start .start .ensures)
-    (r-seq (at-bump .bump .ensures d)
-    (r-seq (at-expect .expect .ensures d)
-    (r-seq (at-containment-path .containment-path .ensures d) (w-done (at-loop .loop .inv d) (sym (at-at2 .at2 .ensures) ∙ at-if2 .if2 .left)))))
+    (r-seq (at-bump .bump .ensures d) (r-seq (at-expect .expect .ensures d) (at-paths .paths .ensures d)))
     (at-complete .complete .ensures))
 
-returns-2 : tie.Need-returns-2 Inv-loop μ-loop
+returns-2 : tie.Need-returns-2
 unfolding ones first null
 returns-2 c =
     let at-at = c .before in
@@ -72,6 +30,5 @@ returns-2 c =
 pub applies-to-spec : {M : Type 1} → statement M
 applies-to-spec =
     tie.close
-    (tie.spec Inv-loop μ-loop (λ c κs. search needs) (λ c κs. search needs) (λ c κs. search needs) (λ c κs. search needs) (λ c κs. search needs)
-    loop-holds (λ c κs. search needs) (λ c κs. search needs) (λ c κs. search needs) loop-less loop-again (λ c κs. search needs)
+    (tie.spec (λ c κs. search needs) (λ c κs. search needs) (λ c κs. search needs) (λ c κs. search needs) (λ c κs. search needs) (λ c κs. search needs)
     (λ c. read-long (returns c 0)) returns returns-2)

@@ -1,4 +1,4 @@
--- `scan::scan_number_from` meets its contract: each return is a case of the definition.
+-- `scan::scan_number_from` meets its contract: each return is a case of the definition, behind that of a C-style literal.
 -- The place of the n-th `if` is qn. Assumes nothing.
 use Prim.Native.Nat.{ℕ, _+_}
 use mathlib.Core.Path.{_≡_, refl, sym, ap, _∙_}
@@ -6,107 +6,88 @@ use mathlib.Core.Bool.{true, false, not, _&&_}
 use native.Mathlib.Omega.{arith}
 use lib.Dec.{eqb}
 use Rattle.classes.specs.Members.{member}
-use Rattle.aadl.proofs.RunLaws.{run-from-start}
-use Rattle.aadl.specs.Bytes.{peek, is-exponent, is-ident-continue}
-use Rattle.aadl.specs.Kinds.{ERROR, INTEGER-LIT, REAL-LIT, #_}
-use Rattle.aadl.specs.Tokens.{token, exponent-end, is-c-style, number-from}
+use Rattle.aadl.specs.Bytes.{peek, is-exponent}
+use Rattle.aadl.specs.Kinds.{INTEGER-LIT, REAL-LIT, #_}
+use Rattle.aadl.specs.Tokens.{token, exponent-end, number-from}
 use Rattle.aadl.proofs.TokenBounds.{inside}
 use borrow.Author.Needs.{needs}
 use Rattle.scan.proofs.scan_number_from.Statement.{statement}
 use Rattle.scan.proofs.scan_number_from.Tie as tie
 
+scan-based-requires : tie.Need-scan-based-requires
+unfolding member
+scan-based-requires c κs =
+    let a = c .before .before .before .args in
+    omega (arith, inside (λ (x : ℕ). eqb x 35) refl (a .s .now) (a .d) (sym (c .before .at .ensures) ∙ c .if1 .taken))
+
 returns : tie.Need-returns
 unfolding number-from member
 returns c =
     let q1 = c .before in
-    let s = q1 .before .before .before .args .s .now in
-    let d = q1 .before .before .before .args .d in
-    let e : is-c-style s d ≡ true = sym (q1 .before .is-c-style .ensures) ∙ q1 .if1 .taken in
-    rw e (ap (token (# ERROR)) (c .take-while .ensures .0 ∙ run-from-start is-ident-continue s))
-
-scan-based-requires : tie.Need-scan-based-requires
-unfolding member
-scan-based-requires c κs =
-    let a = c .before .before .before .before .before .args in
-    omega (arith, inside (λ (x : ℕ). eqb x 35) refl (a .s .now) (a .d) (sym (c .before .at .ensures) ∙ c .if2 .taken))
+    let q = q1 .before .before .before in
+    let f : eqb (peek (q .args .s .now) (q .args .d)) 35 ≡ true = sym (q1 .before .at .ensures) ∙ q1 .if1 .taken in
+    rw (q .pre .1, f) (c .scan-based .ensures)
 
 returns-2 : tie.Need-returns-2
 unfolding number-from member
 returns-2 c =
-    let q2 = c .before in
-    let q1 = q2 .before .before in
-    let s = q1 .before .before .before .args .s .now in
-    let d = q1 .before .before .before .args .d in
-    let e : is-c-style s d ≡ false = sym (q1 .before .is-c-style .ensures) ∙ q1 .if1 .left in
-    let f : eqb (peek s d) 35 ≡ true = sym (q2 .before .at .ensures) ∙ q2 .if2 .taken in
-    rw (e, f) (c .scan-based .ensures)
+    let q2 = c .before .before in
+    let q1 = q2 .before .before .before in
+    let q = q1 .before .before .before in
+    let s = q .args .s .now in
+    let d = q .args .d in
+    let f : eqb (peek s d) 35 ≡ false = sym (q1 .before .at .ensures) ∙ q1 .if1 .left in
+    let g : (eqb (peek s d) 46 && not (eqb (peek s (d + 1)) 46)) ≡ true =
+    sym (λ i. q2 .before .before .at2 .ensures i && not (q2 .before .at3 .ensures i)) ∙ q2 .if2 .taken in
+    rw (q .pre .1, f, g) (ap (token (# REAL-LIT)) (c .exponent .ensures ∙ ap (exponent-end s) (c .before .take-while .ensures .0)))
 
 returns-3 : tie.Need-returns-3
 unfolding number-from member
 returns-3 c =
-    let q3 = c .before .before in
-    let q2 = q3 .before .before .before in
-    let q1 = q2 .before .before in
-    let s = q1 .before .before .before .args .s .now in
-    let d = q1 .before .before .before .args .d in
-    let e : is-c-style s d ≡ false = sym (q1 .before .is-c-style .ensures) ∙ q1 .if1 .left in
-    let f : eqb (peek s d) 35 ≡ false = sym (q2 .before .at .ensures) ∙ q2 .if2 .left in
-    let g : (eqb (peek s d) 46 && not (eqb (peek s (d + 1)) 46)) ≡ true =
-    sym (λ i. q3 .before .before .at2 .ensures i && not (q3 .before .at3 .ensures i)) ∙ q3 .if3 .taken in
-    rw (e, f, g) (ap (token (# REAL-LIT)) (c .exponent .ensures ∙ ap (exponent-end s) (c .before .take-while2 .ensures .0)))
+    let q3 = c .before in
+    let q2 = q3 .before .before in
+    let q1 = q2 .before .before .before in
+    let q = q1 .before .before .before in
+    let s = q .args .s .now in
+    let d = q .args .d in
+    let f : eqb (peek s d) 35 ≡ false = sym (q1 .before .at .ensures) ∙ q1 .if1 .left in
+    let g : (eqb (peek s d) 46 && not (eqb (peek s (d + 1)) 46)) ≡ false =
+    sym (λ i. q2 .before .before .at2 .ensures i && not (q2 .before .at3 .ensures i)) ∙ q2 .if2 .left in
+    let h : is-exponent (peek s d) ≡ true = sym (q3 .before .at4 .ensures) ∙ q3 .if3 .taken in
+    rw (q .pre .1, f, g, h) (ap (token (# REAL-LIT)) (c .exponent2 .ensures))
 
 returns-4 : tie.Need-returns-4
 unfolding number-from member
 returns-4 c =
-    let q4 = c .before in
-    let q3 = q4 .before .before in
-    let q2 = q3 .before .before .before in
-    let q1 = q2 .before .before in
-    let s = q1 .before .before .before .args .s .now in
-    let d = q1 .before .before .before .args .d in
-    let e : is-c-style s d ≡ false = sym (q1 .before .is-c-style .ensures) ∙ q1 .if1 .left in
-    let f : eqb (peek s d) 35 ≡ false = sym (q2 .before .at .ensures) ∙ q2 .if2 .left in
+    let q3 = c .before in
+    let q2 = q3 .before .before in
+    let q1 = q2 .before .before .before in
+    let q = q1 .before .before .before in
+    let s = q .args .s .now in
+    let d = q .args .d in
+    let f : eqb (peek s d) 35 ≡ false = sym (q1 .before .at .ensures) ∙ q1 .if1 .left in
     let g : (eqb (peek s d) 46 && not (eqb (peek s (d + 1)) 46)) ≡ false =
-    sym (λ i. q3 .before .before .at2 .ensures i && not (q3 .before .at3 .ensures i)) ∙ q3 .if3 .left in
-    let h : is-exponent (peek s d) ≡ true = sym (q4 .before .at4 .ensures) ∙ q4 .if4 .taken in
-    rw (e, f, g, h) (ap (token (# REAL-LIT)) (c .exponent2 .ensures))
-
-returns-5 : tie.Need-returns-5
-unfolding number-from member
-returns-5 c =
-    let q4 = c .before in
-    let q3 = q4 .before .before in
-    let q2 = q3 .before .before .before in
-    let q1 = q2 .before .before in
-    let s = q1 .before .before .before .args .s .now in
-    let d = q1 .before .before .before .args .d in
-    let e : is-c-style s d ≡ false = sym (q1 .before .is-c-style .ensures) ∙ q1 .if1 .left in
-    let f : eqb (peek s d) 35 ≡ false = sym (q2 .before .at .ensures) ∙ q2 .if2 .left in
-    let g : (eqb (peek s d) 46 && not (eqb (peek s (d + 1)) 46)) ≡ false =
-    sym (λ i. q3 .before .before .at2 .ensures i && not (q3 .before .at3 .ensures i)) ∙ q3 .if3 .left in
-    let h : is-exponent (peek s d) ≡ false = sym (q4 .before .at4 .ensures) ∙ q4 .if4 .left in
-    rw (e, f, g, h) (ap (token (# INTEGER-LIT)) (c .take-while3 .ensures .0))
+    sym (λ i. q2 .before .before .at2 .ensures i && not (q2 .before .at3 .ensures i)) ∙ q2 .if2 .left in
+    let h : is-exponent (peek s d) ≡ false = sym (q3 .before .at4 .ensures) ∙ q3 .if3 .left in
+    rw (q .pre .1, f, g, h) (ap (token (# INTEGER-LIT)) (c .take-while2 .ensures .0))
 
 pub scan-number-from-spec : {M : Type 1} → statement M
 scan-number-from-spec =
     tie.close
     (tie.spec
     (λ c κs. tt)
-    (λ c κs. tt)
+    (λ c. search needs)
+    scan-based-requires
     returns
     (λ c κs. tt)
     (λ c. search needs)
-    scan-based-requires
+    (λ c κs. tt)
+    (λ c. search needs)
+    (λ c κs. tt)
+    (λ c κs. tt)
     returns-2
-    (λ c κs. tt)
-    (λ c. search needs)
-    (λ c κs. tt)
-    (λ c. search needs)
     (λ c κs. tt)
     (λ c κs. tt)
     returns-3
     (λ c κs. tt)
-    (λ c κs. tt)
-    returns-4
-    (λ c κs. tt)
-    returns-5)
+    returns-4)
