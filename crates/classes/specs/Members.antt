@@ -1,18 +1,16 @@
--- The members of each class, by the tests of aadl's Bytes. Assumes nothing.
+-- The members of each class, by the tests of aadl's Bytes; no class has another number. Assumes nothing.
 use Prim.Native.Nat.{ℕ}
-use mathlib.Core.Bool.{Bool}
+use mathlib.Core.Bool.{Bool, false, cond}
 use lib.Dec.{eqb}
 use Rattle.aadl.specs.Bytes.{is-whitespace, is-digit, is-based, is-ident-continue, is-grouped, not-lf, is-exponent, is-sign}
-use Rattle.classes.specs.declared.Class.{Class}
-use Rattle.classes.specs.declared.Class.the-variants.{Whitespace, Digit, Based, Word, Grouped, NotLf, Exponent, Sign, Is}
 
-unfoldable pub member : Class → ℕ → Bool
-member Whitespace b = is-whitespace b
-member Digit b = is-digit b
-member Based b = is-based b
-member Word b = is-ident-continue b
-member Grouped b = is-grouped b
-member NotLf b = not-lf b
-member Exponent b = is-exponent b
-member Sign b = is-sign b
-member (Is x) b = eqb b x
+unfoldable pub member : (class : ℕ) → ℕ → Bool
+member k b =
+    cond (eqb k 0) (is-whitespace b)
+    (cond (eqb k 1) (is-digit b)
+    (cond (eqb k 2) (is-based b)
+    (cond (eqb k 3) (is-ident-continue b)
+    (cond (eqb k 4) (is-grouped b)
+    (cond (eqb k 5) (not-lf b)
+    (cond (eqb k 6) (is-exponent b)
+    (cond (eqb k 7) (is-sign b) false)))))))

@@ -6,18 +6,23 @@ ghost use lib.ListN.{length};
 ghost use Rattle.aadl.specs.Bytes as bytes;
 ghost use Rattle.classes.specs.Members.{member};
 
-// A class of bytes: those of the names of aadl's Bytes (Word: `is-ident-continue`), and a byte by itself.
-pub enum Class {
-    Whitespace,
-    Digit,
-    Based,
-    Word,
-    Grouped,
-    NotLf,
-    Exponent,
-    Sign,
-    Is(u8),
-}
+// Classes of bytes, those of the names of aadl's Bytes (WORD: `is-ident-continue`). A class is a number, so that the compiler makes a
+// loop of its own for each.
+pub const SPACES: u8 = 0;
+
+pub const DIGITS: u8 = 1;
+
+pub const BASED: u8 = 2;
+
+pub const WORD: u8 = 3;
+
+pub const GROUPED: u8 = 4;
+
+pub const NOT_LF: u8 = 5;
+
+pub const EXPONENTS: u8 = 6;
+
+pub const SIGNS: u8 = 7;
 
 pub fn is_whitespace(b: u8) -> bool
     ensures { λ r. ⌜ r ≡ bytes.is-whitespace b ⌝ }
@@ -50,19 +55,19 @@ pub fn is_hex_digit(b: u8) -> bool
 }
 
 // Whether a byte is of a class.
-fn in_class(b: u8, class: Class) -> bool
+fn in_class(b: u8, class: u8) -> bool
     ensures { λ r. ⌜ r ≡ member class b ⌝ }
 {
     match class {
-        Class::Whitespace => is_whitespace(b),
-        Class::Digit => is_digit(b),
-        Class::Based => is_hex_digit(b) | (b == b'.') | (b == b'_'),
-        Class::Word => is_ident_continue(b),
-        Class::Grouped => is_digit(b) | (b == b'_'),
-        Class::NotLf => !(b == b'\n'),
-        Class::Exponent => (b == b'e') | (b == b'E'),
-        Class::Sign => (b == b'+') | (b == b'-'),
-        Class::Is(x) => b == x,
+        SPACES => is_whitespace(b),
+        DIGITS => is_digit(b),
+        BASED => is_hex_digit(b) | (b == b'.') | (b == b'_'),
+        WORD => is_ident_continue(b),
+        GROUPED => is_digit(b) | (b == b'_'),
+        NOT_LF => !(b == b'\n'),
+        EXPONENTS => (b == b'e') | (b == b'E'),
+        SIGNS => (b == b'+') | (b == b'-'),
+        _ => false,
     }
 }
 
@@ -74,14 +79,14 @@ pub fn peek(s: &[u8], i: usize) -> u8
 }
 
 // Whether a byte of a class stands at a place.
-pub fn at(s: &[u8], i: usize, class: Class) -> bool
+pub fn at(s: &[u8], i: usize, class: u8) -> bool
     ensures { λ r. ⌜ r ≡ member class (bytes.peek (now (s .entry)) i) ⌝ }
 {
     in_class(peek(s, i), class)
 }
 
 // The place after the run of a class that begins at a place.
-pub fn take_while(s: &[u8], from: usize, class: Class) -> usize
+pub fn take_while(s: &[u8], from: usize, class: u8) -> usize
     ensures { λ r. ⌜ (r ≡ bytes.run-end (member class) (now (s .entry)) from) × (r ≤ max from (length (now (s .entry)))) ⌝ }
 {
     let mut i = from;

@@ -1,6 +1,6 @@
--- Strings and searches, one byte at a time: what the bytes from a place on give, by the byte at the place. Assumes nothing.
+-- Strings and inner digits, one byte at a time: what the bytes from a place on give, by the byte at the place. Assumes nothing.
 use mathlib.Core.Path.{_≡_, refl, ap}
-use mathlib.Core.Bool.{Bool, true, false, not, _&&_}
+use mathlib.Core.Bool.{Bool, true, false, not, _&&_, _||_}
 use mathlib.Core.List.{List}
 use Prim.Native.Nat.{ℕ, suc, _+_, _≤_, _<_}
 use native.Mathlib.Numerals.{add-one}
@@ -8,11 +8,10 @@ use native.Mathlib.Omega.{arith}
 use lib.ListN.{length, drop, drop-of-length-le}
 use lib.Dec.{eqb}
 use lib.Seq.{drop-cons}
-use borrow.Author.Tests.{eq-eqb, ne-eqb}
-use Rattle.predictive.specs.Grammar.{has}
 use Rattle.aadl.specs.declared.Quoted.{Quoted}
-use Rattle.aadl.specs.Bytes.{peek}
+use Rattle.aadl.specs.Bytes.{peek, is-based, run}
 use Rattle.aadl.specs.Tokens.{quoted, string-of}
+use Rattle.scan.specs.Inner.{dotted}
 
 -- STRINGS --------------------------------------------------------------------------------------------------------------
 
@@ -43,14 +42,22 @@ module _ (bs : List ℕ) (i : ℕ) (q : Bool) where
   unfolding quoted
   string-over h = rw (drop-of-length-le bs h) (ap (λ (n : ℕ). quote-of n q) (omega arith))
 
--- SEARCHES -------------------------------------------------------------------------------------------------------------
+-- INNER DIGITS ---------------------------------------------------------------------------------------------------------
 
-module _ (bs : List ℕ) (x i : ℕ) where
-  pub has-here : i < length bs → x ≡ peek bs i → has (drop i bs) x ≡ true
-  has-here h e = rw (drop-cons bs i 0 h, eq-eqb x (peek bs i) e) refl
+module _ (bs : List ℕ) (i : ℕ) where
+  pub dotted-more : i < length bs → is-based (peek bs i) ≡ true → dotted (drop i bs) ≡ (eqb 46 (peek bs i) || dotted (drop (i + 1) bs))
+  unfolding run
+  dotted-more h e = rw (drop-cons bs i 0 h, e, add-one i) refl
 
-  pub has-more : i < length bs → (x ≡ peek bs i → ⊥) → has (drop i bs) x ≡ has (drop (i + 1) bs) x
-  has-more h e = rw (drop-cons bs i 0 h, ne-eqb x (peek bs i) e, add-one) refl
+  pub dotted-stop : i < length bs → is-based (peek bs i) ≡ false → dotted (drop i bs) ≡ false
+  unfolding run
+  dotted-stop h e = rw (drop-cons bs i 0 h, e) refl
 
-  pub has-end : length bs ≤ i → has (drop i bs) x ≡ false
-  has-end h = rw (drop-of-length-le bs h) refl
+  pub dotted-over : length bs ≤ i → dotted (drop i bs) ≡ false
+  unfolding run
+  dotted-over h = rw (drop-of-length-le bs h) refl
+
+-- A dot was seen or is still to come, with one byte more seen.
+pub seen-more : (dot now later : Bool) → ((dot || now) || later) ≡ (dot || (now || later))
+seen-more true now later = refl
+seen-more false now later = refl

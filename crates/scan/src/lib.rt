@@ -2,7 +2,14 @@
 // definition gives. Names and order follow the Rust's lexer.
 use aadl::Quoted;
 use aadl::Token;
-use classes::Class;
+use classes::BASED;
+use classes::DIGITS;
+use classes::EXPONENTS;
+use classes::GROUPED;
+use classes::NOT_LF;
+use classes::SIGNS;
+use classes::SPACES;
+use classes::WORD;
 use classes::at;
 use classes::is_digit;
 use classes::is_hex_digit;
@@ -47,25 +54,24 @@ ghost use mathlib.Core.Path.{_≡_};
 ghost use mathlib.Core.Bool.{false};
 ghost use mathlib.Core.List.{[], _∷_};
 ghost use Prim.Native.Nat.{_≤_};
-ghost use lib.ListN.{length};
-ghost use Rattle.predictive.specs.Grammar.{has};
-ghost use Rattle.aadl.specs.Bytes.{run, is-whitespace, not-lf};
+ghost use lib.ListN.{length, drop};
+ghost use Rattle.aadl.specs.Bytes.{run, run-end, is-whitespace, is-based, not-lf};
 ghost use Rattle.aadl.specs.Tokens.{string-of, exponent-end, is-c-style, based, number-from, number-of, word-of, mark-of, token-of};
 ghost use Rattle.aadl.specs.Utf8.{_to_, fits, sequence};
-ghost use Rattle.scan.specs.Inner.{number-token, radix-digit, single, longest};
+ghost use Rattle.scan.specs.Inner.{number-token, radix-digit, dotted, single, longest};
 
 // The length of the whitespace at the front.
 fn scan_whitespace(s: &[u8]) -> usize
     ensures { λ r. ⌜ r ≡ run is-whitespace (now (s .entry)) ⌝ }
 {
-    take_while(s, 0, Class::Whitespace)
+    take_while(s, 0, SPACES)
 }
 
 // The length up to the end of the line: what a comment takes.
 fn scan_comment(s: &[u8]) -> usize
     ensures { λ r. ⌜ r ≡ run not-lf (now (s .entry)) ⌝ }
 {
-    take_while(s, 0, Class::NotLf)
+    take_while(s, 0, NOT_LF)
 }
 
 // The string whose opening quote is the first byte.
@@ -96,11 +102,11 @@ fn scan_string(s: &[u8]) -> Quoted
 fn exponent(s: &[u8], i: usize) -> usize
     ensures { λ r. ⌜ r ≡ exponent-end (now (s .entry)) i ⌝ }
 {
-    if at(s, i, Class::Exponent) {
-        if at(s, i + 1, Class::Sign) {
-            return take_while(s, i + 2, Class::Digit);
+    if at(s, i, EXPONENTS) {
+        if at(s, i + 1, SIGNS) {
+            return take_while(s, i + 2, DIGITS);
         }
-        return take_while(s, i + 1, Class::Digit);
+        return take_while(s, i + 1, DIGITS);
     }
     i
 }
@@ -132,18 +138,27 @@ pub fn is_c_style(s: &[u8], d: usize) -> bool
     is_radix_digit(w.second, w.third)
 }
 
-// Whether a byte stands anywhere in a text.
-fn contains(s: &[u8], b: u8) -> bool
-    ensures { λ r. ⌜ r ≡ has (now (s .entry)) b ⌝ }
+// Inner digits of a number with a base: where they end, and whether a dot is among them.
+struct InnerDigits {
+    end: usize,
+    dot: bool,
+}
+
+// The inner digits that begin at a place.
+fn inner_digits(s: &[u8], from: usize) -> InnerDigits
+    requires { ⌜ from ≤ length (now s) ⌝ }
+    ensures { λ r. ⌜ (r .end ≡ run-end is-based (now (s .entry)) from) × (r .dot ≡ dotted (drop from (now (s .entry)))) × (r .end ≤ length (now (s .entry))) ⌝ }
 {
-    let mut i = 0;
+    let mut i = from;
+    let mut dot = false;
     while i < s.len() {
-        if b == s[i] {
-            return true;
+        if !at(s, i, BASED) {
+            return InnerDigits { end: i, dot };
         }
+        dot = dot | (b'.' == s[i]);
         i += 1;
     }
-    false
+    InnerDigits { end: i, dot }
 }
 
 // A number with a base, whose inner digits begin at a place.
@@ -151,13 +166,14 @@ fn scan_based(s: &[u8], i: usize) -> Token
     requires { ⌜ i ≤ length (now s) ⌝ }
     ensures { λ r. ⌜ r ≡ number-token (based (now (s .entry)) i) ⌝ }
 {
-    let e = take_while(s, i, Class::Based);
+    let inner = inner_digits(s, i);
+    let e = inner.end;
     let mut f = e;
-    if at(s, e, Class::Is(b'#')) {
+    if peek(s, e) == b'#' {
         f = e + 1;
     }
     let len = exponent(s, f);
-    if contains(&s[i..e], b'.') | at(s, f, Class::Exponent) {
+    if inner.dot | at(s, f, EXPONENTS) {
         return Token {
             kind: REAL_LIT,
             len,
@@ -174,16 +190,16 @@ pub fn scan_number_from(s: &[u8], d: usize) -> Token
     requires { ⌜ (d ≤ length (now s)) × (is-c-style (now s) d ≡ false) ⌝ }
     ensures { λ r. ⌜ r ≡ number-token (number-from (now (s .entry)) d) ⌝ }
 {
-    if at(s, d, Class::Is(b'#')) {
+    if peek(s, d) == b'#' {
         return scan_based(s, d + 1);
     }
-    if at(s, d, Class::Is(b'.')) & !at(s, d + 1, Class::Is(b'.')) {
+    if (peek(s, d) == b'.') & !(peek(s, d + 1) == b'.') {
         return Token {
             kind: REAL_LIT,
-            len: exponent(s, take_while(s, d + 1, Class::Digit)),
+            len: exponent(s, take_while(s, d + 1, DIGITS)),
         };
     }
-    if at(s, d, Class::Exponent) {
+    if at(s, d, EXPONENTS) {
         return Token {
             kind: REAL_LIT,
             len: exponent(s, d),
@@ -191,7 +207,7 @@ pub fn scan_number_from(s: &[u8], d: usize) -> Token
     }
     Token {
         kind: INTEGER_LIT,
-        len: take_while(s, d, Class::Grouped),
+        len: take_while(s, d, GROUPED),
     }
 }
 
@@ -199,11 +215,11 @@ pub fn scan_number_from(s: &[u8], d: usize) -> Token
 fn scan_number(s: &[u8]) -> Token
     ensures { λ r. ⌜ r ≡ number-token (number-of (now (s .entry))) ⌝ }
 {
-    let d = take_while(s, 0, Class::Digit);
+    let d = take_while(s, 0, DIGITS);
     if is_c_style(s, d) {
         return Token {
             kind: ERROR,
-            len: take_while(s, 0, Class::Word),
+            len: take_while(s, 0, WORD),
         };
     }
     scan_number_from(s, d)
@@ -213,7 +229,7 @@ fn scan_number(s: &[u8]) -> Token
 fn scan_ident_or_keyword(s: &[u8]) -> Token
     ensures { λ r. ⌜ r ≡ word-of (now (s .entry)) ⌝ }
 {
-    let n = take_while(s, 0, Class::Word);
+    let n = take_while(s, 0, WORD);
     Token {
         kind: from_keyword(&s[..n]),
         len: n,

@@ -10,6 +10,7 @@ use Rattle.aadl.specs.Bytes.{peek, is-exponent}
 use Rattle.aadl.specs.Kinds.{INTEGER-LIT, REAL-LIT, #_}
 use Rattle.aadl.specs.Tokens.{token, exponent-end, number-from}
 use Rattle.aadl.proofs.TokenBounds.{inside}
+use borrow.Author.Tests.{eq-eqb, ne-eqb}
 use borrow.Author.Needs.{needs}
 use Rattle.scan.proofs.scan_number_from.Statement.{statement}
 use Rattle.scan.proofs.scan_number_from.Tie as tie
@@ -18,14 +19,14 @@ scan-based-requires : tie.Need-scan-based-requires
 unfolding member
 scan-based-requires c κs =
     let a = c .before .before .before .args in
-    omega (arith, inside (λ (x : ℕ). eqb x 35) refl (a .s .now) (a .d) (sym (c .before .at .ensures) ∙ c .if1 .taken))
+    omega (arith, inside (λ (x : ℕ). eqb x 35) refl (a .s .now) (a .d) (eq-eqb (peek (a .s .now) (a .d)) 35 (sym (c .before .peek .ensures) ∙ c .if1 .taken)))
 
 returns : tie.Need-returns
 unfolding number-from member
 returns c =
     let q1 = c .before in
     let q = q1 .before .before .before in
-    let f : eqb (peek (q .args .s .now) (q .args .d)) 35 ≡ true = sym (q1 .before .at .ensures) ∙ q1 .if1 .taken in
+    let f : eqb (peek (q .args .s .now) (q .args .d)) 35 ≡ true = eq-eqb _ 35 (sym (q1 .before .peek .ensures) ∙ q1 .if1 .taken) in
     rw (q .pre .1, f) (c .scan-based .ensures)
 
 returns-2 : tie.Need-returns-2
@@ -36,9 +37,9 @@ returns-2 c =
     let q = q1 .before .before .before in
     let s = q .args .s .now in
     let d = q .args .d in
-    let f : eqb (peek s d) 35 ≡ false = sym (q1 .before .at .ensures) ∙ q1 .if1 .left in
+    let f : eqb (peek s d) 35 ≡ false = ne-eqb _ 35 (λ p. q1 .if1 .left (q1 .before .peek .ensures ∙ p)) in
     let g : (eqb (peek s d) 46 && not (eqb (peek s (d + 1)) 46)) ≡ true =
-    sym (λ i. q2 .before .before .at2 .ensures i && not (q2 .before .at3 .ensures i)) ∙ q2 .if2 .taken in
+    sym (λ i. eqb (q2 .before .before .peek2 .ensures i) 46 && not (eqb (q2 .before .peek3 .ensures i) 46)) ∙ q2 .if2 .taken in
     rw (q .pre .1, f, g) (ap (token (# REAL-LIT)) (c .exponent .ensures ∙ ap (exponent-end s) (c .before .take-while .ensures .0)))
 
 returns-3 : tie.Need-returns-3
@@ -50,10 +51,10 @@ returns-3 c =
     let q = q1 .before .before .before in
     let s = q .args .s .now in
     let d = q .args .d in
-    let f : eqb (peek s d) 35 ≡ false = sym (q1 .before .at .ensures) ∙ q1 .if1 .left in
+    let f : eqb (peek s d) 35 ≡ false = ne-eqb _ 35 (λ p. q1 .if1 .left (q1 .before .peek .ensures ∙ p)) in
     let g : (eqb (peek s d) 46 && not (eqb (peek s (d + 1)) 46)) ≡ false =
-    sym (λ i. q2 .before .before .at2 .ensures i && not (q2 .before .at3 .ensures i)) ∙ q2 .if2 .left in
-    let h : is-exponent (peek s d) ≡ true = sym (q3 .before .at4 .ensures) ∙ q3 .if3 .taken in
+    sym (λ i. eqb (q2 .before .before .peek2 .ensures i) 46 && not (eqb (q2 .before .peek3 .ensures i) 46)) ∙ q2 .if2 .left in
+    let h : is-exponent (peek s d) ≡ true = sym (q3 .before .at .ensures) ∙ q3 .if3 .taken in
     rw (q .pre .1, f, g, h) (ap (token (# REAL-LIT)) (c .exponent2 .ensures))
 
 returns-4 : tie.Need-returns-4
@@ -65,10 +66,10 @@ returns-4 c =
     let q = q1 .before .before .before in
     let s = q .args .s .now in
     let d = q .args .d in
-    let f : eqb (peek s d) 35 ≡ false = sym (q1 .before .at .ensures) ∙ q1 .if1 .left in
+    let f : eqb (peek s d) 35 ≡ false = ne-eqb _ 35 (λ p. q1 .if1 .left (q1 .before .peek .ensures ∙ p)) in
     let g : (eqb (peek s d) 46 && not (eqb (peek s (d + 1)) 46)) ≡ false =
-    sym (λ i. q2 .before .before .at2 .ensures i && not (q2 .before .at3 .ensures i)) ∙ q2 .if2 .left in
-    let h : is-exponent (peek s d) ≡ false = sym (q3 .before .at4 .ensures) ∙ q3 .if3 .left in
+    sym (λ i. eqb (q2 .before .before .peek2 .ensures i) 46 && not (eqb (q2 .before .peek3 .ensures i) 46)) ∙ q2 .if2 .left in
+    let h : is-exponent (peek s d) ≡ false = sym (q3 .before .at .ensures) ∙ q3 .if3 .left in
     rw (q .pre .1, f, g, h) (ap (token (# INTEGER-LIT)) (c .take-while2 .ensures .0))
 
 pub scan-number-from-spec : {M : Type 1} → statement M
