@@ -1,5 +1,5 @@
--- `scan::scan_based` meets its contract: the places found are those of the definition, and so are the tests.
--- The place of the n-th `if` is qn. Assumes nothing.
+-- `scan::scan_based` meets its contract: the places found are those of the definition, and so are the tests; both returns are one
+-- token of the kind that the tests gave. Assumes nothing.
 use Prim.Native.Nat.{ℕ, _+_, _-_}
 use mathlib.Core.Path.{_≡_, sym, ap, _∙_}
 use mathlib.Core.Logic.{⊎-elim}
@@ -11,9 +11,9 @@ use Rattle.predictive.specs.Grammar.{has}
 use Rattle.classes.specs.Members.{member}
 use Rattle.aadl.specs.Bytes.{peek, is-based, is-exponent, run-end}
 use Rattle.aadl.specs.Kinds.{INTEGER-LIT, REAL-LIT, #_}
-use Rattle.aadl.specs.Tokens.{token}
+use Rattle.aadl.specs.Tokens.{token, based}
 use Rattle.aadl.proofs.RunLaws.{run-rest}
-use Rattle.scan.specs.Inner.{dotted}
+use Rattle.scan.specs.Inner.{number-token, dotted}
 use Rattle.scan.proofs.NumberLaws.{based-at}
 use borrow.Author.Tests.{eq-eqb, ne-eqb}
 use borrow.Author.Needs.{needs}
@@ -24,45 +24,40 @@ use Rattle.scan.proofs.scan_based.Tie as tie
 dot-at : (s : List ℕ) (i e : ℕ) → e ≡ run-end is-based s i → has (take (e - i) (drop i s)) 46 ≡ dotted (drop i s)
 dot-at s i e q = ap (λ (n : ℕ). has (take n (drop i s)) 46) (ap (λ (n : ℕ). n - i) q ∙ run-rest is-based s i)
 
-returns : tie.Need-returns
-unfolding member
-returns c =
-    let at-exponent = c .before .before .before in
-    let q1 = at-exponent .before in
-    let w = q1 .before .before in
-    let s = w .before .before .args .s .now in
-    let i = w .before .before .args .i in
-    let e = w .inner-digits .result .end in
-    let f = q1 .if1 .f in
-    let hash = q1 .before .peek .ensures in
-    let past : f ≡ cond (eqb (peek s e) 35) (e + 1) e =
-    ⊎-elim (λ y. rw (eq-eqb (peek s e) 35 (sym hash ∙ y .0 .taken)) (y .1)) (λ n. rw (ne-eqb (peek s e) 35 (λ p. n .0 .left (hash ∙ p))) (n .1)) (q1 .if1 .came) in
-    let real : (has (take (e - i) (drop i s)) 46 || is-exponent (peek s f)) ≡ true =
-    ap (λ (t : Bool). t || is-exponent (peek s f)) (dot-at s i e (w .inner-digits .ensures .0))
-    ∙ sym (λ k. w .inner-digits .ensures .1 k || c .before .before .at .ensures k)
-    ∙ c .if2 .taken in
-    (λ k. token (cond (sym real k) (# REAL-LIT) (# INTEGER-LIT)) (at-exponent .exponent .ensures k))
-    ∙ based-at s i e f (w .inner-digits .ensures .0) past
+-- behind a closing `#`, if it is there
+past : (q : tie.Joined1) →
+    let s = q .before .before .before .before .args .s .now in
+    let e = q .before .before .inner-digits .result .end in
+    q .if1 .f ≡ cond (eqb (peek s e) 35) (e + 1) e
+past q =
+    let hash = q .before .peek .ensures in
+    ⊎-elim (λ y. rw (eq-eqb _ 35 (sym hash ∙ y .0 .taken)) (y .1)) (λ n. rw (ne-eqb _ 35 (λ p. n .0 .left (hash ∙ p))) (n .1)) (q .if1 .came)
 
-returns-2 : tie.Need-returns-2
-unfolding member
-returns-2 c =
-    let at-exponent = c .before .before .before in
-    let q1 = at-exponent .before in
+-- what makes it a real: a dot, or an exponent where `at` looked
+real : (q : tie.After-at) →
+    let q1 = q .before .before in
     let w = q1 .before .before in
     let s = w .before .before .args .s .now in
     let i = w .before .before .args .i in
-    let e = w .inner-digits .result .end in
-    let f = q1 .if1 .f in
-    let hash = q1 .before .peek .ensures in
-    let past : f ≡ cond (eqb (peek s e) 35) (e + 1) e =
-    ⊎-elim (λ y. rw (eq-eqb (peek s e) 35 (sym hash ∙ y .0 .taken)) (y .1)) (λ n. rw (ne-eqb (peek s e) 35 (λ p. n .0 .left (hash ∙ p))) (n .1)) (q1 .if1 .came) in
-    let real : (has (take (e - i) (drop i s)) 46 || is-exponent (peek s f)) ≡ false =
-    ap (λ (t : Bool). t || is-exponent (peek s f)) (dot-at s i e (w .inner-digits .ensures .0))
-    ∙ sym (λ k. w .inner-digits .ensures .1 k || c .before .before .at .ensures k)
-    ∙ c .if2 .left in
-    (λ k. token (cond (sym real k) (# REAL-LIT) (# INTEGER-LIT)) (at-exponent .exponent .ensures k))
-    ∙ based-at s i e f (w .inner-digits .ensures .0) past
+    (has (take (w .inner-digits .result .end - i) (drop i s)) 46 || is-exponent (peek s (q1 .if1 .f))) ≡ (w .inner-digits .result .dot || q .at .result)
+unfolding member
+real q =
+    let q1 = q .before .before in
+    let w = q1 .before .before in
+    let s = w .before .before .args .s .now in
+    ap (λ (t : Bool). t || is-exponent (peek s (q1 .if1 .f))) (dot-at s (w .before .before .args .i) _ (w .inner-digits .ensures .0))
+    ∙ sym (λ k. w .inner-digits .ensures .1 k || q .at .ensures k)
+
+-- the token of the kind that the tests gave
+kept : (q : tie.After-at) (t : Bool) → (q .before .before .before .before .inner-digits .result .dot || q .at .result) ≡ t →
+    let q1 = q .before .before in
+    let w = q1 .before .before in
+    token (cond t (# REAL-LIT) (# INTEGER-LIT)) (q .before .exponent .result) ≡ number-token (based (w .before .before .args .s .now) (w .before .before .args .i))
+kept q t e =
+    let q1 = q .before .before in
+    let w = q1 .before .before in
+    (λ k. token (cond (sym (real q ∙ e) k) (# REAL-LIT) (# INTEGER-LIT)) (q .before .exponent .ensures k))
+    ∙ based-at (w .before .before .args .s .now) (w .before .before .args .i) _ (q1 .if1 .f) (w .inner-digits .ensures .0) (past q1)
 
 pub scan-based-spec : {M : Type 1} → statement M
 scan-based-spec =
@@ -73,5 +68,5 @@ scan-based-spec =
     (λ c. search needs)
     (λ c κs. tt)
     (λ c κs. tt)
-    returns
-    returns-2)
+    (λ c. kept (c .before .before) true (c .if2 .taken))
+    (λ c. kept (c .before .before) false (c .if2 .left)))
