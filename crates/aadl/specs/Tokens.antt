@@ -53,13 +53,14 @@ exponent-end bs i =
     (cond (is-sign (peek bs (i + 1))) (run-end is-digit bs (i + 2)) (run-end is-digit bs (i + 1)))
     i
 
--- "D is just `0`, then x, o or b in either case, then a digit of radix 16, 8 or 2"; d is D's length, m the letter, b the digit
+-- "then x, o or b in either case, then a digit of radix 16, 8 or 2"; m is the letter, b the digit
+abbrev pub radix-digit : (m b : ℕ) → Bool
+radix-digit m b =
+    (((eqb m 120 || eqb m 88) && is-hex-digit b) || ((eqb m 111 || eqb m 79) && within 48 55 b)) || ((eqb m 98 || eqb m 66) && within 48 49 b)
+
+-- "D is just `0`", with such a letter and digit behind it; d is D's length
 abbrev pub is-c-style : List ℕ → ℕ → Bool
-is-c-style bs d =
-    let m = peek bs d in
-    let b = peek bs (d + 1) in
-    (eqb d 1 && eqb (peek bs 0) 48)
-    && ((((eqb m 120 || eqb m 88) && is-hex-digit b) || ((eqb m 111 || eqb m 79) && within 48 55 b)) || ((eqb m 98 || eqb m 66) && within 48 49 b))
+is-c-style bs d = (eqb d 1 && eqb (peek bs 0) 48) && radix-digit (peek bs d) (peek bs (d + 1))
 
 abbrev pub number : (kind len base-end inner inner-end : ℕ) → (closed exponent : Bool) → Number
 number k n b i e c x = record { kind = k; len = n; base-end = b; inner = i; inner-end = e; closed = c; exponent = x }

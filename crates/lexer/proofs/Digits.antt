@@ -19,7 +19,7 @@ use Rattle.runs.specs.Classes.{class-of, class-table}
 use Rattle.runs.proofs.ClassTable.{class-at}
 use Rattle.scan.specs.Inner.{number-token}
 use Rattle.scan.proofs.NumberLaws.{c-style-number}
-use Rattle.lexer.proofs.FirstByte.{or-implied, digit-run, literal-run, number-is}
+use Rattle.lexer.proofs.FirstByte.{or-implied, run-on, digit-run, number-is}
 
 -- a byte that is no radix letter, no exponent's, no digit and no `_`
 abbrev quiet : ℕ → Bool
@@ -91,8 +91,9 @@ module _ (s : List ℕ) (i e : ℕ) (h : i < length s) (l : getD s i 0 < 256) (k
 
   -- A C-style literal is the whole run of letters, digits and `_`.
   pub c-style-token : (r : ℕ) → r ≡ run-end is-ident-continue s (i + 1) → is-c-style (drop i s) (e - i) ≡ true → token (# ERROR) (r - i) ≡ token-of (drop i s)
+  unfolding marks
   c-style-token r w t =
-      ap (token (# ERROR)) (ap (λ (n : ℕ). n - i) (w ∙ literal-run s i h l k) ∙ run-rest is-ident-continue s i) ∙ c-style-number (drop i s) (e - i) t ∙ digits-token
+      ap (token (# ERROR)) (ap (λ (n : ℕ). n - i) (w ∙ run-on s i h l 60 is-ident-continue refl k) ∙ run-rest is-ident-continue s i) ∙ c-style-number (drop i s) (e - i) t ∙ digits-token
 
   pub integer-token : (c : ℕ) → c < 256 → c ≡ getD s e 0 → ltb (getD class-table c 0) 60 ≡ true → eqb c 35 ≡ false → eqb c 46 ≡ false →
       token (# INTEGER-LIT) (e - i) ≡ token-of (drop i s)

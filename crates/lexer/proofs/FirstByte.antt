@@ -38,7 +38,7 @@ module _ (s : List ℕ) (i : ℕ) (h : i < length s) (l : getD s i 0 < 256) wher
       ∙ or-implied (eqb (class-of b) k) (g b) (eq-eqb (class-of b) k (sym (class-at b l) ∙ e)) (below-at (λ (b : ℕ). not (eqb (class-of b) k) || g b) 256 t b l)
 
   -- a run of such a class goes on from the next byte
-  run-on : (k : ℕ) (g : ℕ → Bool) → below (λ (b : ℕ). not (eqb (class-of b) k) || g b) 256 ≡ true → getD class-table (getD s i 0) 0 ≡ k → run-end g s (i + 1) ≡ run-end g s i
+  pub run-on : (k : ℕ) (g : ℕ → Bool) → below (λ (b : ℕ). not (eqb (class-of b) k) || g b) 256 ≡ true → getD class-table (getD s i 0) 0 ≡ k → run-end g s (i + 1) ≡ run-end g s i
   run-on k g t e = sym (run-more g s i h (ap g head ∙ of-class k g t e))
 
   pub word-run : getD class-table (getD s i 0) 0 ≡ 61 → run-end is-ident-continue s (i + 1) ≡ run-end is-ident-continue s i
@@ -52,11 +52,6 @@ module _ (s : List ℕ) (i : ℕ) (h : i < length s) (l : getD s i 0 < 256) wher
   pub digit-run : getD class-table (getD s i 0) 0 ≡ 60 → run-end is-digit s (i + 1) ≡ run-end is-digit s i
   unfolding marks
   digit-run e = run-on 60 is-digit refl e
-
-  -- a number's letters go on from its first digit
-  pub literal-run : getD class-table (getD s i 0) 0 ≡ 60 → run-end is-ident-continue s (i + 1) ≡ run-end is-ident-continue s i
-  unfolding marks
-  literal-run e = run-on 60 is-ident-continue refl e
 
   pub word-token : getD class-table (getD s i 0) 0 ≡ 61 → word-of (drop i s) ≡ token-of (drop i s)
   unfolding token-of marks

@@ -10,8 +10,8 @@ use borrow.Author.Tests.{eqb-true}
 use Rattle.predictive.proofs.Tests.{or-cases}
 use Rattle.aadl.specs.Bytes.{peek, within, is-hex-digit, is-ident-continue, is-based, run, run-end}
 use Rattle.aadl.specs.Kinds.{#_, ERROR}
-use Rattle.aadl.specs.Tokens.{token, is-c-style, number-from, based-to, based}
-use Rattle.scan.specs.Inner.{number-token, radix-digit}
+use Rattle.aadl.specs.Tokens.{token, radix-digit, is-c-style, number-from, based-to, based}
+use Rattle.scan.specs.Inner.{number-token}
 
 -- C-STYLE --------------------------------------------------------------------------------------------------------------
 

@@ -56,9 +56,9 @@ ghost use mathlib.Core.List.{[], _∷_};
 ghost use Prim.Native.Nat.{_≤_};
 ghost use lib.ListN.{length, drop};
 ghost use Rattle.aadl.specs.Bytes.{run, run-end, is-whitespace, is-based, not-lf};
-ghost use Rattle.aadl.specs.Tokens.{string-of, exponent-end, is-c-style, based, number-from, number-of, word-of, mark-of, token-of};
+ghost use Rattle.aadl.specs.Tokens.{string-of, exponent-end, radix-digit, is-c-style, based, number-from, number-of, word-of, mark-of, token-of};
 ghost use Rattle.aadl.specs.Utf8.{_to_, fits, sequence};
-ghost use Rattle.scan.specs.Inner.{number-token, radix-digit, dotted, single, longest};
+ghost use Rattle.scan.specs.Inner.{number-token, dotted, single, longest};
 
 // The length of the whitespace at the front.
 fn scan_whitespace(s: &[u8]) -> usize

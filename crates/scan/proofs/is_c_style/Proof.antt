@@ -6,7 +6,7 @@ use lib.Dec.{eqb}
 use borrow.Author.Tests.{eq-eqb, ne-eqb}
 use Rattle.cursor.specs.declared.Window.{Window}
 use Rattle.aadl.specs.Bytes.{peek}
-use Rattle.scan.specs.Inner.{radix-digit}
+use Rattle.aadl.specs.Tokens.{radix-digit}
 use Rattle.scan.proofs.is_c_style.Statement.{statement}
 use Rattle.scan.proofs.is_c_style.Tie as tie
 
