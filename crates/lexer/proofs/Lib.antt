@@ -1,5 +1,5 @@
 pub mod TextLaws
-pub mod ClearLaws
+pub mod FilledLaws
 pub mod FillLaws
 pub mod SequenceLaws
 pub mod FirstByte

@@ -1,85 +1,110 @@
-// Prints the listing of the text on standard input: reads the text, calls the section call, and writes line by line what `listing` gives. The lines of the
-// words from the first cursor on are the listing (listing's `listing-of-answer`). Assumes nothing; no contract says what is read or written.
-use aadl::Answer;
-use listing::Cursor;
-use listing::first_cursor;
-use listing::next_cursor;
-use listing::put_header;
-use listing::put_line;
-use listing::put_refusal;
-use section::property_section;
+// Prints the listing of a text: reads it, asks `listing` for pieces and writes them out. All between reading and writing is proved there; no contract says
+// what is read or written. A failed read or write is told on standard error, and nothing more is written.
+use libc::STDERR_FILENO;
+use libc::STDIN_FILENO;
+use listing::EVENTS;
+use listing::Listing;
+use listing::READ;
+use listing::TOKENS;
+use listing::begin;
+use listing::next_piece;
+use streams::read_full;
+use streams::write_out;
 
-// One byte more than is ever read: a longer text is refused for that one.
-const MOST: usize = 32769;
+const HELP: [u8; 208] =
+    *b"list [FILE]  prints the listing of the property section in FILE, or in standard input (also: -)
+             a text that is refused prints one line: refused,NUMBER,PLACE
+list --help  prints these three lines
+";
 
-// "The program lends 16,384 token words and words for 8,192 events."
-const TOKENS: usize = 16384;
+// Writes the next piece of a listing, and says whether there was one and it went out.
+fn print_piece(out: &[u8], count: usize) -> bool {
+    if count == 0 {
+        return false;
+    }
+    if out.len() < count {
+        return false;
+    }
+    write_out(&out[..count])
+}
 
-const EVENTS: usize = 8192;
-
-fn write(out: &[u8], n: usize) {
-    if n <= out.len() {
-        io::write_all(libc::STDOUT_FILENO, &out[0..n]);
+// A proved loop has to end: it counts its turns down, from a number that no run uses up.
+fn print(text: &[u8; READ], tokens: &[u32; TOKENS], events: &[u32; EVENTS], l: Listing) {
+    let mut out = io::large_buffer();
+    let mut at = l;
+    let mut turns = u64::MAX;
+    let mut on = true;
+    while turns > 0 && on {
+        let p = next_piece(text, tokens, events, at, &mut out);
+        on = print_piece(&out, p.count);
+        at = p.listing;
+        turns -= 1;
     }
 }
 
-// A place is at most the text's length.
-fn narrow(place: usize) -> u32 {
-    if place < 4294967296 {
-        return place as u32;
-    }
-    4294967295
-}
-
-fn print_refusal(number: u32, place: usize) {
-    let mut out = [0u8; 64];
-    let n = put_refusal(&mut out, number, narrow(place));
-    write(&out, n);
-}
-
-fn print_header() {
-    let mut out = [0u8; 64];
-    let n = put_header(&mut out);
-    write(&out, n);
-}
-
-// The line of a word's event, where the cursor stands.
-fn print_line(word: u32, c: Cursor) {
-    let s = c.spot;
-    let mut out = [0u8; 64];
-    let n = put_line(&mut out, c.number, word, s.line, s.column);
-    write(&out, n);
-}
-
-fn print_events(src: &[u8], toks: &[u32], events: &[u32]) {
-    print_header();
-    let mut c = first_cursor(src, toks);
-    let mut i = 0;
-    while i < events.len() {
-        let w = events[i];
-        print_line(w, c);
-        c = next_cursor(src, toks, w, c);
-        i += 1;
-    }
-}
-
-// An answer counts no more words than are lent.
-fn print(src: &[u8], tokens: &[u32], events: &[u32], a: Answer) {
-    let t = a.tokens;
-    let e = a.events;
-    if a.number != 0 || tokens.len() < t || events.len() < e {
-        print_refusal(a.number, a.place);
+// The listing of what can be read from a descriptor, which has a name for messages.
+fn list(fd: i32, name: &[u8]) {
+    let mut text = [0u8; READ];
+    let got = read_full(fd, &mut text);
+    if got.failed {
+        os::fail(name);
         return;
     }
-    print_events(src, &tokens[0..t], &events[0..e]);
+    let mut tokens = [0u32; TOKENS];
+    let mut events = [0u32; EVENTS];
+    let l = begin(&text, got.count, &mut tokens, &mut events);
+    print(&text, &tokens, &events, l);
+}
+
+fn list_file(path: &[u8]) {
+    let fd = os::open_read(path);
+    if fd < 0 {
+        os::fail(path);
+        return;
+    }
+    list(fd, path);
+    libc::close(fd);
+}
+
+fn list_input() {
+    list(STDIN_FILENO, b"standard input");
+}
+
+fn tell_usage() {
+    io::write_all(
+        STDERR_FILENO,
+        b"list: one FILE at most, and no option but --help\n",
+    );
+}
+
+// What one argument asks for. An option begins with `-`, so a file of such a name is given as `./-..`.
+fn answer(arg: &[u8]) {
+    if check::same(arg, b"-") {
+        list_input();
+    } else if check::same(arg, b"--help") {
+        write_out(&HELP);
+    } else if 0 < arg.len() && arg[0] == b'-' {
+        tell_usage();
+    } else {
+        list_file(arg);
+    }
 }
 
 fn main() {
-    let mut text = [0u8; MOST];
-    let mut tokens = [0u32; TOKENS];
-    let mut events = [0u32; EVENTS];
-    let n = io::read_full(libc::STDIN_FILENO, &mut text);
-    let src = &text[0..n];
-    let a = property_section(src, &mut tokens, &mut events);
-    print(src, &tokens, &events, a);
+    let count = os::arg_count();
+    if count < 2 {
+        list_input();
+        return;
+    }
+    if 2 < count {
+        tell_usage();
+        return;
+    }
+    let mut arg = io::buffer();
+    let n = os::arg(1, &mut arg);
+    if os::errno() != 0 {
+        os::fail(b"argument");
+        return;
+    }
+    answer(&arg[..n]);
 }

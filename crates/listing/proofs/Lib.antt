@@ -1,5 +1,3 @@
-pub mod DecimalLaws
-pub mod WriteLaws
-pub mod LineLaws
-pub mod SpotLaws
 pub mod CursorLaws
+pub mod PieceLaws
+pub mod EndToEnd

@@ -1,3 +1,2 @@
-pub mod Lines
-pub mod Spots
 pub mod Cursors
+pub mod Pieces

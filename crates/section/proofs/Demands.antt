@@ -72,7 +72,8 @@ settles (check n false p ∷ cs) a =
     (λ x. inr (x .0, (x .1 .0, (inr (refl, x .1 .1 .0), x .1 .1 .1))))
     (settles cs a)
 
-first-numbered : (cs : List Check) (n p : ℕ) → Each Numbered cs → First cs n p → n ≡ 0 → ⊥
+-- the numbers are not 0
+pub first-numbered : (cs : List Check) (n p : ℕ) → Each Numbered cs → First cs n p → n ≡ 0 → ⊥
 first-numbered [] n p h f e = f
 first-numbered (check k case q ∷ cs) n p h f e =
     ⊎-elim (λ x. h .0 (x .1 .0 ∙ e)) (λ x. first-numbered cs n p (h .1) (x .1) e) f

@@ -1,14 +1,14 @@
--- Zeroing, one word at a turn: the words before `i` are zero and the rest are as they were (ClearLaws). The measure is what is left. Assumes nothing.
+-- Zeroing, one word at a turn: the words before `i` are zero and the rest are as they were (FilledLaws). The measure is what is left. Assumes nothing.
 use Prim.Native.Nat.{_-_}
 use mathlib.Core.Path.{refl}
-use Rattle.lexer.proofs.ClearLaws.{Cleared, cleared-more, cleared-ends}
+use Rattle.lexer.proofs.FilledLaws.{Filled, filled-more, filled-ends}
 use lib.ListN.{length}
 use borrow.Author.Needs.{needs}
 use Rattle.lexer.proofs.clear.Statement.{statement}
 use Rattle.lexer.proofs.clear.Tie as tie
 
 abbrev Inv-loop : tie.InvT-loop
-Inv-loop words₀ i₀ words i = Cleared words₀ words i
+Inv-loop words₀ i₀ words i = Filled 0 words₀ words i
 
 abbrev μ-loop : tie.MeasureT-loop
 μ-loop words₀ i₀ words i = length words₀ - i
@@ -17,12 +17,12 @@ loop-holds : tie.Need-loop-holds Inv-loop μ-loop
 loop-holds c = (refl, refl, search needs)
 
 loop-again : tie.Need-loop-again Inv-loop μ-loop
-loop-again c = cleared-more (c .before .before .args .words .now) (c .before .loop .words) (c .before .loop .i) (search needs) (c .before .loop .inv)
+loop-again c = filled-more 0 (c .before .before .args .words .now) (c .before .loop .words) (c .before .loop .i) (search needs) (c .before .loop .inv)
 
 returns : tie.Need-returns Inv-loop μ-loop
 returns c =
     let l = c .before .loop in
-    cleared-ends (c .before .before .args .words .now) (l .words) (l .i) (search needs) (l .inv)
+    filled-ends 0 (c .before .before .args .words .now) (l .words) (l .i) (search needs) (l .inv)
 
 pub clear-spec : {M : Type 1} → statement M
 clear-spec =

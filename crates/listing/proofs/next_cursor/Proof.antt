@@ -11,16 +11,14 @@ use Rattle.listing.proofs.next_cursor.Tie as tie
 returns : tie.Need-returns
 returns c =
     let at-if1 = c .before .before in
-    let at-next = at-if1 .before .before .before in
-    let a = at-next .before .before .before .args in
-    step-token (input (a .src .now) (a .toks .now)) (a .word) (a .c) (at-if1 .if1 .taken) (at-next .next .ensures)
+    let a = at-if1 .before .before .before .before .before .args in
+    step-token (input (a .src .now) (a .toks .now)) (a .word) (a .c) (at-if1 .if1 .taken)
     (ap (λ (s : State). s .parser) (c .before .pass .ensures [] .ran)) (c .spot-at .ensures)
 
 returns-2 : tie.Need-returns-2
 returns-2 c =
-    let at-next = c .before .before .before in
-    let a = at-next .before .before .before .args in
-    step-other (input (a .src .now) (a .toks .now)) (a .word) (a .c) (c .if1 .left) (at-next .next .ensures)
+    let a = c .before .before .before .before .before .args in
+    step-other (input (a .src .now) (a .toks .now)) (a .word) (a .c) (c .if1 .left)
 
 pub next-cursor-spec : {M : Type 1} → statement M
-next-cursor-spec = tie.close (tie.spec (λ c κs. search needs) (λ c κs. search needs) (λ c κs. search needs) returns returns-2)
+next-cursor-spec = tie.close (tie.spec (λ c κs. search needs) (λ c κs. search needs) returns returns-2)

@@ -1,21 +1,41 @@
--- `records::fill` is safe and ends: the words stay as many. Assumes nothing.
-use Prim.Native.Nat.{_≤_, _-_}
-use borrow.Author.Needs.{needs}
+-- One word at a turn (lexer, FilledLaws). The measure is what is left. Assumes nothing.
+use Prim.Native.Nat.{_-_}
+use mathlib.Core.Path.{refl}
 use lib.ListN.{length}
-use native.Mathlib.Omega.{arith}
-use lib.ListN.{length-set}
-use mathlib.Core.Path.{_≡_}
+use Rattle.lexer.proofs.FilledLaws.{Filled, filled-more, filled-ends}
+use Rattle.records.specs.Records.{old-word}
+use borrow.Author.Needs.{needs}
 use Rattle.records.proofs.fill.Statement.{statement}
 use Rattle.records.proofs.fill.Tie as tie
 
 abbrev Inv-loop : tie.InvT-loop
-Inv-loop words₀ i₀ words i = (i ≤ length words) × (length words ≡ length words₀)
+Inv-loop words₀ i₀ words i = Filled old-word words₀ words i
 
 abbrev μ-loop : tie.MeasureT-loop
 μ-loop words₀ i₀ words i = length words₀ - i
 
+loop-holds : tie.Need-loop-holds Inv-loop μ-loop
+loop-holds c = (refl, refl, search needs)
+
 loop-again : tie.Need-loop-again Inv-loop μ-loop
-loop-again c = (simp length-set (omega arith), simp length-set (omega arith))
+loop-again c = filled-more old-word (c .before .before .args .words .now) (c .before .loop .words) (c .before .loop .i) (search needs) (c .before .loop .inv)
+
+returns : tie.Need-returns Inv-loop μ-loop
+returns c =
+    let l = c .before .loop in
+    filled-ends old-word (c .before .before .args .words .now) (l .words) (l .i) (search needs) (l .inv)
 
 pub fill-spec : {M : Type 1} → statement M
-fill-spec = tie.close (tie.spec Inv-loop μ-loop (λ c. search needs) (λ c. search needs) (λ c. search needs) (λ c. search needs) (λ c. search needs) loop-again (λ c. search needs) (λ c. search needs))
+fill-spec =
+    tie.close
+    (tie.spec
+    Inv-loop
+    μ-loop
+    loop-holds
+    (λ c. search needs)
+    (λ c. search needs)
+    (λ c. search needs)
+    (λ c. search needs)
+    loop-again
+    (λ c. search needs)
+    returns)

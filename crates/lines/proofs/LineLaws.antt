@@ -1,0 +1,99 @@
+-- Where a word tells its event, its line is the listing's; a line is its fields one after the other; and no line is longer than its room. Assumes nothing.
+use Prim.Native.Nat.{ℕ, zero, suc, _/_, _%_, _^_, _≤_, _<_}
+use native.Mathlib.Omega.{arith}
+use mathlib.Core.Path.{_≡_, refl, sym, ap, _∙_}
+use mathlib.Core.Bool.{cond}
+use mathlib.Core.List.{List, [], _∷_, _++_, append-assoc}
+use lib.ListN.{length, take, length-append}
+use lib.Dec.{eqb}
+use borrow.Author.Tests.{eq-eqb, ne-eqb}
+use Rattle.predictive.specs.Forest.{message}
+use Rattle.predictive.specs.Events.{Event, error}
+use Rattle.aadl.specs.declared.Answer.{Answer}
+use Rattle.aadl.specs.Words.{bytes}
+use Rattle.aadl.specs.Limits.{Limits}
+use Rattle.aadl.specs.Symbols.{symbols, start-of}
+use Rattle.aadl.specs.Reading.{events, fields, event-word, event-by, event-in}
+use Rattle.aadl.specs.Answers.{section-answer}
+use Rattle.aadl.specs.Listing.{decimal, line-after, column-after, row, letter, event-line, event-lines, listing}
+use Rattle.spots.specs.declared.Spot.{Spot}
+use Rattle.writing.proofs.DecimalLaws.{decimal-length}
+use Rattle.lines.specs.Lines.{header, line-of, refusal-line, first-line, line-room}
+use Rattle.spots.specs.Spots.{first, spot-after}
+use Rattle.spots.proofs.SpotLaws.{spot-of}
+
+-- the event in a word of a class, and of a class above 2
+pub event-by-class : (w c : ℕ) → w / 16777216 ≡ c → event-in w ≡ event-by c (w / 65536 % 256) (w % 65536)
+unfolding event-in
+event-by-class w c e = ap (λ (x : ℕ). event-by x (w / 65536 % 256) (w % 65536)) e
+
+pub event-by-high : (w : ℕ) → 3 ≤ w / 16777216 → event-in w ≡ error (message (w % 65536))
+unfolding event-in
+event-by-high w h = go (w / 16777216) h
+  where
+    go : (c : ℕ) → 3 ≤ c → event-by c (w / 65536 % 256) (w % 65536) ≡ error (message (w % 65536))
+    go zero h = absurd (omega arith)
+    go (suc zero) h = absurd (omega arith)
+    go (suc (suc zero)) h = absurd (omega arith)
+    go (suc (suc (suc c))) h = refl
+
+pub event-line-is : (text : List ℕ) (n t : ℕ) (e : Event) → event-in (event-word e) ≡ e →
+    line-of n (event-word e) (line-after 1 (take (start-of text t) text)) (column-after 1 (take (start-of text t) text)) ≡ event-line text n t e
+unfolding line-of event-line
+event-line-is text n t e w =
+    let bs = take (start-of text t) text in
+    ap (λ (f : Event). row (decimal n ∷ letter f ∷ decimal (fields f .1) ∷ decimal (fields f .2) ∷ decimal (line-after 1 bs) ∷ decimal (column-after 1 bs) ∷ [])) w
+
+-- the same where the line and the column are those of the spot that a walk from the text's first place reaches
+pub event-line-at : (text : List ℕ) (n t : ℕ) (e : Event) (s : Spot) → event-in (event-word e) ≡ e → length text < 4294967295 → s ≡ spot-after text first (start-of text t) →
+    line-of n (event-word e) (s .line) (s .column) ≡ event-line text n t e
+event-line-at text n t e s w h q =
+    let p = q ∙ spot-of text (start-of text t) h in
+    (λ i. line-of n (event-word e) (p i .line) (p i .column)) ∙ event-line-is text n t e w
+
+-- The whole listing, by the section call's answer: its first line, and the events' lines of an answer that refuses nothing.
+pub listing-is : (limits : Limits) (text : List ℕ) (a : Answer) → a ≡ section-answer limits text 16384 8192 →
+    listing limits text ≡ cond (eqb (a .number) 0) (header ++ event-lines text 0 0 (events limits (symbols text))) (refusal-line (a .number) (a .place))
+unfolding listing header refusal-line
+listing-is limits text a e =
+    ap (λ (b : Answer). cond (eqb (b .number) 0) (header ++ event-lines text 0 0 (events limits (symbols text))) (refusal-line (b .number) (b .place))) (sym e)
+
+pub first-is-header : (a : Answer) → a .number ≡ 0 → first-line a ≡ header
+unfolding first-line
+first-is-header a e = rw (eq-eqb (a .number) 0 e) refl
+
+pub first-is-refusal : (a : Answer) → (a .number ≡ 0 → ⊥) → first-line a ≡ refusal-line (a .number) (a .place)
+unfolding first-line
+first-is-refusal a f = rw (ne-eqb (a .number) 0 f) refl
+
+-- FIELDS ---------------------------------------------------------------------------------------------------------------
+
+-- A line's fields, each with the byte after it, one after the other.
+abbrev pub line-fields : (n : ℕ) → (x : List ℕ) → (k y l c : ℕ) → List ℕ
+line-fields n x k y l c =
+    ((((((decimal n ++ (44 ∷ [])) ++ x) ++ (44 ∷ [])) ++ (decimal k ++ (44 ∷ []))) ++ (decimal y ++ (44 ∷ []))) ++ (decimal l ++ (44 ∷ []))) ++ (decimal c ++ (10 ∷ []))
+
+pub line-parts : (n w l c : ℕ) (x : List ℕ) (k y : ℕ) → x ≡ letter (event-in w) → k ≡ fields (event-in w) .1 → y ≡ fields (event-in w) .2 →
+    line-fields n x k y l c ≡ line-of n w l c
+unfolding line-of
+line-parts n w l c x k y p q r = simp append-assoc (λ i. row (decimal n ∷ p i ∷ decimal (q i) ∷ decimal (r i) ∷ decimal l ∷ decimal c ∷ []))
+
+abbrev pub refusal-fields : (n p : ℕ) → List ℕ
+refusal-fields n p = (bytes "refused," ++ (decimal n ++ (44 ∷ []))) ++ (decimal p ++ (10 ∷ []))
+
+pub refusal-parts : (n p : ℕ) → refusal-fields n p ≡ refusal-line n p
+unfolding refusal-line
+refusal-parts n p = simp append-assoc
+
+-- NO LINE IS LONGER THAN ITS ROOM --------------------------------------------------------------------------------------
+
+pub line-fits : (n : ℕ) (x : ℕ) (k y l c : ℕ) → n < 10 ^ 20 → k < 10 ^ 10 → y < 10 ^ 10 → l < 10 ^ 10 → c < 10 ^ 10 → length (line-fields n (x ∷ []) k y l c) ≤ line-room
+line-fits n x k y l c hn hk hy hl hc =
+    simp length-append (omega (arith, decimal-length 19 n hn, decimal-length 9 k hk, decimal-length 9 y hy, decimal-length 9 l hl, decimal-length 9 c hc))
+
+pub refusal-fits : (n p : ℕ) → n < 10 ^ 10 → p < 10 ^ 20 → length (refusal-fields n p) ≤ line-room
+refusal-fits n p hn hp = simp length-append (omega (arith, decimal-length 9 n hn, decimal-length 19 p hp))
+
+pub header-fits : length header ≤ line-room
+unfolding header
+header-fits = omega arith

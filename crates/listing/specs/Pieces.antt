@@ -1,0 +1,52 @@
+-- What is left of a listing, and the pieces in which it is given: whole lines, as many as a buffer takes. Where a piece ends is ours to say, what
+-- the pieces are end to end is not. Assumes nothing.
+use Prim.Native.Nat.{ℕ, _+_, _-_, _≤_}
+use mathlib.Core.Path.{_≡_}
+use mathlib.Core.Bool.{true, cond}
+use mathlib.Core.List.{List, [], _∷_, _++_}
+use lib.ListN.{length, take, drop}
+use lib.Dec.{leb}
+use Rattle.aadl.specs.Limits.{base}
+use Rattle.aadl.specs.Listing.{listing}
+use Rattle.parser.specs.Input.{input}
+use Rattle.writing.specs.Written.{Wrote}
+use Rattle.listing.specs.declared.Listing.{Listing}
+use Rattle.lines.specs.Lines.{line-room, first-line}
+use Rattle.listing.specs.Cursors.{lines-from}
+
+-- Lines end to end.
+abbrev pub joined : List (List ℕ) → List ℕ
+joined [] = []
+joined (l ∷ ls) = l ++ joined ls
+
+-- The next piece, and the lines behind it: a line is given while there is room for any.
+unfoldable pub piece : (room : ℕ) → List (List ℕ) → List ℕ
+piece room [] = []
+piece room (l ∷ ls) = cond (leb line-room room) (l ++ piece (room - length l) ls) []
+
+unfoldable pub behind : (room : ℕ) → List (List ℕ) → List (List ℕ)
+behind room [] = []
+behind room (l ∷ ls) = cond (leb line-room room) (behind (room - length l) ls) (l ∷ ls)
+
+-- The lines that a listing has yet to give, of the bytes and words that are lent.
+unfoldable pub left : (text tokens events : List ℕ) → Listing → List (List ℕ)
+left text ts es l =
+    let a = l .answer in
+    let inp = input (take (l .bytes) text) (take (a .tokens) ts) in
+    let lines = lines-from inp (l .event) (drop (l .event) (take (a .events) es)) (l .cursor) in
+    cond (l .begun) lines (first-line a ∷ lines)
+
+-- A listing whose first line is given.
+abbrev pub given : Listing → Listing
+given l = record { bytes = l .bytes; answer = l .answer; begun = true; event = l .event; cursor = l .cursor }
+
+-- A piece of some lines is written over a buffer from a place on, with so much room behind it, and all of it has room; it ends at a place, and
+-- the other lines are left.
+pub record Gave (room from : ℕ) (lines : List (List ℕ)) (old : List ℕ) (end : ℕ) (rest : List (List ℕ)) (new : List ℕ) : Type 0 where
+  pub wrote : Wrote old from (piece room lines) new end
+  pub whole : from + length (piece room lines) ≤ length old
+  pub leaves : rest ≡ behind room lines
+
+-- The lines that are left, end to end, are the listing of every text of which the first bytes, as many as were read, are all that has room.
+pub record Lists (text : List ℕ) (bytes : ℕ) (tokens events : List ℕ) (l : Listing) : Type 0 where
+  pub lists : (t : List ℕ) → take bytes text ≡ take (length text) t → joined (left text tokens events l) ≡ listing base t

@@ -1,0 +1,48 @@
+-- Words that hold a value, counted one by one: those counted and those among the words that are left make up the whole. And which words are counted.
+-- Assumes nothing.
+use Prim.Native.Nat.{ℕ, suc, _+_, _-_, _≤_, _<_, min}
+use native.Mathlib.Numerals.{add-one}
+use native.Mathlib.Omega.{arith}
+use mathlib.Core.Path.{_≡_, refl, ap, _∙_}
+use mathlib.Core.Bool.{cond}
+use mathlib.Core.List.{List}
+use lib.ListN.{length, getD, take, drop, length-drop, drop-of-length-le}
+use lib.Seq.{drop-cons, take-all}
+use lib.Dec.{eqb}
+use borrow.Author.Tests.{eq-eqb, ne-eqb}
+use Rattle.writing.proofs.LeastLaws.{drop-within}
+use Rattle.records.specs.Records.{old-word, count, rest}
+
+pub record Counted (v : ℕ) (ws : List ℕ) (n i : ℕ) : Type 0 where
+  pub whole : n + count v (drop i ws) ≡ count v ws
+  pub few : n ≤ i
+  pub within : i ≤ length ws
+
+module _ {v : ℕ} {ws : List ℕ} {n i : ℕ} (c : Counted v ws n i) (h : i < length ws) where
+  here : count v (drop i ws) ≡ cond (eqb (getD ws i 0) v) (suc (count v (drop (i + 1) ws))) (count v (drop (i + 1) ws))
+  here = rw (add-one i) (ap (count v) (drop-cons ws i 0 h))
+
+  pub counted-one : (m : ℕ) → m ≡ n + 1 → getD ws i 0 ≡ v → Counted v ws m (i + 1)
+  counted-one m q e =
+      let k : count v (drop i ws) ≡ suc (count v (drop (i + 1) ws)) = rw (eq-eqb (getD ws i 0) v e) at here in
+      record { whole = omega (arith, k, c .whole); few = omega (arith, c .few); within = omega arith }
+
+  pub counted-none : (m : ℕ) → m ≡ n → (getD ws i 0 ≡ v → ⊥) → Counted v ws m (i + 1)
+  counted-none m q f =
+      let k : count v (drop i ws) ≡ count v (drop (i + 1) ws) = rw (ne-eqb (getD ws i 0) v f) at here in
+      record { whole = omega (arith, k, c .whole); few = omega (arith, c .few); within = omega arith }
+
+pub counted-all : {v : ℕ} {ws : List ℕ} {n i : ℕ} → Counted v ws n i → length ws ≤ i → n ≡ count v ws
+counted-all {v} {ws} {n} {i} c h = omega (arith, c .whole, ap (count v) (drop-of-length-le ws {i = i} h))
+
+-- WHAT IS LEFT ---------------------------------------------------------------------------------------------------------
+
+pub rest-refused : (number used : ℕ) (ws : List ℕ) → (number ≡ 0 → ⊥) → count 0 ws ≡ rest number used ws
+unfolding rest
+rest-refused number used ws f = rw (ne-eqb number 0 f) refl
+
+pub rest-kept : (number used from : ℕ) (ws : List ℕ) → number ≡ 0 → from ≡ min used (length ws) → count old-word (take (length ws - from) (drop from ws)) ≡ rest number used ws
+unfolding rest
+rest-kept number used from ws e f =
+    let all = take-all (length ws - from) (drop from ws) (omega (arith, length-drop from ws)) in
+    ap (count old-word) (all ∙ ap (λ (k : ℕ). drop k ws) f ∙ drop-within used ws) ∙ rw (eq-eqb number 0 e) refl

@@ -1,0 +1,67 @@
+// The line and the column of a place in a text, step by step.
+use writing::least;
+ghost use Prim.Native.Nat.{_+_};
+ghost use mathlib.Core.Path.{_≡_};
+ghost use mathlib.Core.List.{[], _∷_};
+ghost use Rattle.aadl.specs.Listing.{line-after, column-after};
+ghost use Rattle.spots.specs.Spots.{capped, first, spot-after};
+
+// A place in a text, with its line and column.
+pub struct Spot {
+    pub place: usize,
+    pub line: u32,
+    pub column: u32,
+}
+
+// One more, as far as 32 bits go.
+fn one_more(n: u32) -> u32
+    ensures { λ r. ⌜ r ≡ capped (n + 1) ⌝ }
+{
+    if n < 4294967295 { n + 1 } else { n }
+}
+
+// The line behind a byte.
+fn line_behind(line: u32, b: u8) -> u32
+    ensures { λ r. ⌜ r ≡ capped (line-after line (b ∷ [])) ⌝ }
+{
+    if b == b'\n' { one_more(line) } else { line }
+}
+
+// The column behind a byte.
+fn column_behind(column: u32, b: u8) -> u32
+    ensures { λ r. ⌜ r ≡ capped (column-after column (b ∷ [])) ⌝ }
+{
+    if b == b'\n' { 1 } else { one_more(column) }
+}
+
+// The text's first place: line and column count from 1.
+pub fn first_spot() -> Spot
+    ensures { λ r. ⌜ r ≡ first ⌝ }
+{
+    Spot {
+        place: 0,
+        line: 1,
+        column: 1,
+    }
+}
+
+// The spot at a later place, or at the text's end if that comes before: from a spot that stands, byte by byte.
+pub fn spot_at(src: &[u8], s: Spot, place: usize) -> Spot
+    ensures { λ r. ⌜ r ≡ spot-after (now (src .entry)) s place ⌝ }
+{
+    let end = least(place, src.len());
+    let mut at = s.place;
+    let mut line = s.line;
+    let mut column = s.column;
+    while at < end {
+        let b = src[at];
+        line = line_behind(line, b);
+        column = column_behind(column, b);
+        at += 1;
+    }
+    Spot {
+        place: at,
+        line,
+        column,
+    }
+}

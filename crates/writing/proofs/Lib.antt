@@ -1,0 +1,4 @@
+pub mod DecimalLaws
+pub mod LeastLaws
+pub mod SpellLaws
+pub mod WriteLaws
