@@ -18,12 +18,12 @@ name_sources() {
     export SPAR_SRC
 }
 
-# Runs cargo on the programs of tools/. It does nothing where nothing changed.
+# Runs cargo on the packages of tools/. It has nothing to do where nothing changed.
 run_cargo() {
     (cd "$root/tools" && cargo "$@" --offline --release --quiet --target-dir "$out") || stop "cargo $* failed"
 }
 
-# Runs rt, which does nothing where nothing changed. What it says is shown where it fails.
+# Runs rt in the repository's folder. What it says is shown where it fails.
 run_rt() {
     command -v rt > /dev/null || stop "no rt in PATH to run: rt $*"
     (cd "$root" && rt "$@") > "$out/rt.log" 2>&1 || { cat "$out/rt.log" >&2; stop "rt $* failed"; }
