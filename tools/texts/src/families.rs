@@ -1,7 +1,7 @@
 //! The families of texts, for the tokens-only call and for the section call.
 use crate::every::Every;
 use crate::random::Rng;
-use crate::{sections, texts};
+use crate::{lexer, sections};
 
 pub enum Maker {
     /// Each text once, until there is none left.
@@ -37,13 +37,13 @@ pub fn tokens() -> Vec<Family> {
         every("every edge of UTF-8", Every::bytes(UTF8_EDGES, 4)),
         every("every two bytes", Every::bytes(&all, 2)),
         every("every short word", Every::bytes(b"iInNoOtTfFsS", 5)),
-        random("bytes", 60, texts::bytes),
-        random("keywords", 60, texts::keyword),
-        random("numbers", 60, texts::number),
-        random("token soup", 60, texts::tokens),
-        random("good UTF-8", 30, texts::good),
-        random("bad UTF-8", 30, texts::bad),
-        random("damaged sections", 20, texts::damaged),
+        random("bytes", 60, lexer::bytes),
+        random("keywords", 60, lexer::keyword),
+        random("numbers", 60, lexer::number),
+        random("token soup", 60, lexer::tokens),
+        random("good UTF-8", 30, lexer::good),
+        random("bad UTF-8", 30, lexer::bad),
+        random("damaged sections", 20, lexer::damaged),
         random("laid out sections", 10, derived),
     ]
 }
@@ -77,12 +77,12 @@ fn lexer_text(rng: &mut Rng) -> Vec<u8> {
         _ => b"properties a => ".to_vec(),
     };
     let more = match rng.below(6) {
-        0 => texts::bytes(rng),
-        1 => texts::keyword(rng),
-        2 => texts::number(rng),
-        3 => texts::tokens(rng),
-        4 => texts::good(rng),
-        _ => texts::bad(rng),
+        0 => lexer::bytes(rng),
+        1 => lexer::keyword(rng),
+        2 => lexer::number(rng),
+        3 => lexer::tokens(rng),
+        4 => lexer::good(rng),
+        _ => lexer::bad(rng),
     };
     text.extend_from_slice(&more);
     text
@@ -110,7 +110,7 @@ pub fn sections() -> Vec<Family> {
         random("derived sections", 60, derived),
         random("damaged words", 60, damaged_words),
         random("word soup", 60, soup),
-        random("damaged sections", 20, texts::damaged),
+        random("damaged sections", 20, lexer::damaged),
         random("openers", 15, openers),
         random("lexer texts", 20, lexer_text),
     ]

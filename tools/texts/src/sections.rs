@@ -1,6 +1,6 @@
 //! Random sections: words in the order of 01's section grammar, laid out at random, and damage to them.
+use crate::lexer::one_of;
 use crate::random::Rng;
-use crate::texts::one_of;
 use crate::words::{CLEAN_LITERALS, KEYWORDS, LITERALS, MARKS, NAMES};
 
 type Words = Vec<String>;

@@ -1,9 +1,11 @@
 //! The texts that are measured: each family at each size, cut at a whole piece. Every text begins with `properties`, so that the
 //! section call reads it, and none is refused.
+use crate::varied::Varied;
 
-#[derive(Clone)]
 pub struct Text {
     pub family: &'static str,
+    /// Whether it is read clean.
+    pub clean: bool,
     pub bytes: usize,
     pub text: String,
 }
@@ -29,7 +31,7 @@ const REALISTIC: &str = "
 ";
 
 /// As many whole pieces as fit between a head and a tail.
-fn filled(bytes: usize, head: &str, piece: impl Fn(usize) -> String, tail: &str) -> String {
+fn filled(bytes: usize, head: &str, mut piece: impl FnMut(usize) -> String, tail: &str) -> String {
     let mut text = String::from(head);
     for n in 0.. {
         let next = piece(n);
@@ -44,6 +46,12 @@ fn filled(bytes: usize, head: &str, piece: impl Fn(usize) -> String, tail: &str)
 fn realistic(bytes: usize) -> String {
     let lines: Vec<&str> = REALISTIC.split_inclusive('\n').skip(1).collect();
     filled(bytes, "properties\n", |n| lines[n % lines.len()].to_string(), "")
+}
+
+/// Like the realistic ones, but without a line that stands there twice: what a processor learns of a text helps it less here.
+fn varied(bytes: usize) -> String {
+    let mut lines = Varied::new(2024);
+    filled(bytes, "properties\n", |_| lines.line(), "")
 }
 
 fn identifiers(bytes: usize) -> String {
@@ -68,7 +76,16 @@ fn nested(bytes: usize) -> String {
 
 fn errors(bytes: usize) -> String {
     // Each ends where the next association can begin, so that all of them are read.
-    let broken = ["Alarm 1;", " Baud => ;", " Cells => (1,, 2;", " Depot :: => x;", " Edge => 0x1;", " Fan 5 x", " Gate => [ h; ];", " Hall => 1 applies x;"];
+    let broken = [
+        "Alarm 1;",
+        " Baud => ;",
+        " Cells => (1,, 2;",
+        " Depot :: => x;",
+        " Edge => 0x1;",
+        " Fan 5 x",
+        " Gate => [ h; ];",
+        " Hall => 1 applies x;",
+    ];
     filled(bytes, "properties\n", |n| broken[n % broken.len()].to_string() + "\n", "")
 }
 
@@ -88,24 +105,36 @@ fn openers(bytes: usize) -> String {
     filled(bytes, "properties\n", |_| format!("A => {}1;\n", "-   ".repeat(64)), "")
 }
 
+/// Names of four letters or so keep the longest text below as many events as may be.
+fn marks(bytes: usize) -> String {
+    let values = [
+        "Can=>(Modem,Plant::Yard,[Rate=>100;],-20..300);",
+        "Cells::Load+=>Press*4-Base/25+(Yard,Line);",
+        "Net=>[Low=>1.5;High=>-25;],Yard::Gate;",
+    ];
+    filled(bytes, "properties\n", |n| values[n % values.len()].to_string(), "")
+}
+
 /// Every family at every size, the realistic ones first.
 pub fn all() -> Vec<Text> {
-    let families: [(&'static str, fn(usize) -> String); 10] = [
-        ("realistic", realistic),
-        ("identifiers", identifiers),
-        ("comments", comments),
-        ("numbers and strings", numbers_and_strings),
-        ("deep nesting", nested),
-        ("errors everywhere", errors),
-        ("0x1, 0x1, ..", c_style),
-        ("comments between two tokens", comment_gap),
-        ("one long identifier", long_identifier),
-        ("64 openers over and over", openers),
+    let families: [(&'static str, bool, fn(usize) -> String); 12] = [
+        ("realistic", true, realistic),
+        ("varied", true, varied),
+        ("identifiers", false, identifiers),
+        ("comments", true, comments),
+        ("numbers and strings", true, numbers_and_strings),
+        ("marks without spaces", true, marks),
+        ("deep nesting", true, nested),
+        ("errors everywhere", false, errors),
+        ("0x1, 0x1, ..", false, c_style),
+        ("comments between two tokens", true, comment_gap),
+        ("one long identifier", true, long_identifier),
+        ("64 openers over and over", true, openers),
     ];
     let mut texts = Vec::new();
-    for (family, make) in families {
+    for (family, clean, make) in families {
         for bytes in SIZES {
-            texts.push(Text { family, bytes, text: make(bytes) });
+            texts.push(Text { family, clean, bytes, text: make(bytes) });
         }
     }
     texts

@@ -1,6 +1,6 @@
 //! Records, and what the two programs write for them.
 use std::io::{Read, Write};
-use std::process::{Command, Stdio};
+use std::process::{Child, Command, Stdio};
 use std::sync::Arc;
 
 /// In the place of the number of lent event words: the tokens-only call.
@@ -34,13 +34,30 @@ pub fn records_bytes(records: &[Record]) -> Vec<u8> {
     out
 }
 
-/// What a program writes for some input, and whether it ended well.
-pub fn run(program: &str, input: Arc<Vec<u8>>) -> (Vec<u8>, bool) {
-    let mut child = Command::new(program)
-        .stdin(Stdio::piped())
-        .stdout(Stdio::piped())
-        .spawn()
-        .unwrap_or_else(|e| panic!("{}: {}", program, e));
+/// One of the two programs.
+#[derive(Clone)]
+pub struct Program {
+    pub name: &'static str,
+    pub path: String,
+}
+
+impl Program {
+    /// Starts it. Where that cannot be done nothing can be compared, so that a line says why and all ends.
+    fn start(&self) -> Child {
+        let child = Command::new(&self.path).stdin(Stdio::piped()).stdout(Stdio::piped()).spawn();
+        child.unwrap_or_else(|e| {
+            eprintln!("compare: no {} to run: {}: {e}", self.name, self.path);
+            std::process::exit(2)
+        })
+    }
+
+    /// What it writes for some input, and whether it ended well.
+    pub fn run(&self, input: Arc<Vec<u8>>) -> (Vec<u8>, bool) {
+        output(self.start(), input)
+    }
+}
+
+fn output(mut child: Child, input: Arc<Vec<u8>>) -> (Vec<u8>, bool) {
     let mut to = child.stdin.take().expect("piped");
     let writer = std::thread::spawn(move || {
         // A program that stops early closes its end; its output tells.
@@ -54,17 +71,17 @@ pub fn run(program: &str, input: Arc<Vec<u8>>) -> (Vec<u8>, bool) {
 }
 
 pub struct Pair {
-    pub oracle: String,
-    pub replay: String,
+    pub oracle: Program,
+    pub replay: Program,
 }
 
 impl Pair {
     pub fn run(&self, records: &[Record]) -> (Vec<u8>, Vec<u8>) {
         let input = Arc::new(records_bytes(records));
         let also = input.clone();
-        let oracle = self.oracle.clone();
-        let other = std::thread::spawn(move || run(&oracle, also));
-        let (ours, well) = run(&self.replay, input);
+        let (oracle, replay) = (self.oracle.start(), self.replay.start());
+        let other = std::thread::spawn(move || output(oracle, also));
+        let (ours, well) = output(replay, input);
         let (theirs, theirs_well) = other.join().expect("oracle");
         if !well || !theirs_well {
             println!("a program did not end well: oracle {}, replay {}", theirs_well, well);

@@ -1,7 +1,7 @@
 //! A small mix of records, for a run on every check.
-use crate::families::Maker;
 use crate::programs::{Record, TOKENS_ONLY};
 use crate::source::Source;
+use texts::families::Maker;
 
 /// The texts that 01 names.
 fn named_texts() -> Vec<Vec<u8>> {

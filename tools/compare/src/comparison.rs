@@ -1,8 +1,8 @@
 //! A run of both programs on many records: counts, and the first record on which they differ.
-use crate::families::Maker;
 use crate::programs::{answer, groups, Pair, Record, TOKENS_ONLY};
 use crate::source::Source;
 use std::time::Instant;
+use texts::families::Maker;
 
 #[derive(Default, Clone)]
 struct Count {

@@ -1,29 +1,9 @@
-//! The safe functions and the tree against the given Rust, on texts of tools/compare. Built only where the Rust's sources are at hand
-//! (tools/bindings-test).
-#![cfg(oracle)]
-#[path = "../../../tools/compare/every.rs"]
-#[allow(dead_code)]
-mod every;
-#[path = "../../../tools/compare/families.rs"]
-#[allow(dead_code)]
-mod families;
-#[path = "../../../tools/compare/random.rs"]
-mod random;
-#[path = "../../../tools/compare/sections.rs"]
-#[allow(dead_code)]
-mod sections;
-#[path = "../../../tools/compare/texts.rs"]
-#[allow(dead_code)]
-mod texts;
-#[path = "../../../tools/compare/words.rs"]
-#[allow(dead_code)]
-mod words;
-
-use families::{Family, Maker};
+//! The safe functions and the tree of bindings/rust against the given Rust, on texts of all families (tools/bindings-test runs it).
 use gigboda::{property_section, tokenize, Event, Node, Refusal, Section};
-use random::Rng;
 use spar::event::Event as Theirs;
 use spar::syntax_kind::SyntaxKind;
+use texts::families::{self, Family, Maker};
+use texts::random::Rng;
 
 /// Texts of each family that makes them at random, and of each that gives every one of its texts.
 const OF_EACH: usize = 3_000;

@@ -1,8 +1,8 @@
 //! Where the records come from: texts of all families, with more or fewer words lent.
-use crate::families::{self, Family, Maker};
 use crate::programs::{Record, TOKENS_ONLY};
-use crate::random::Rng;
-use crate::{sections, texts};
+use texts::families::{self, Family, Maker};
+use texts::random::Rng;
+use texts::{lexer, sections};
 
 /// The most bytes or words of a sort that a record has.
 const MOST: usize = 40_000;
@@ -57,7 +57,7 @@ impl Source {
 
     fn text(&mut self) -> (usize, Vec<u8>) {
         if self.rng.once_in(LONG_ONCE_IN) {
-            return (self.extra(0), texts::long(&mut self.rng));
+            return (self.extra(0), lexer::long(&mut self.rng));
         }
         if self.sections && self.rng.once_in(LONG_ONCE_IN) {
             return (self.extra(1), sections::many_events(&mut self.rng));

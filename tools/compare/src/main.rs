@@ -3,18 +3,12 @@
 //!   compare sample TOKENS SECTIONS ORACLE STDIN STDOUT
 //! tools/README.md says what a record is.
 mod comparison;
-mod every;
-mod families;
 mod programs;
-mod random;
 mod samples;
-mod sections;
 mod source;
-mod texts;
-mod words;
 
 use comparison::compare;
-use programs::{records_bytes, run, Pair};
+use programs::{records_bytes, Pair, Program};
 use samples::sample;
 use std::sync::Arc;
 
@@ -28,12 +22,16 @@ fn number<T: std::str::FromStr>(text: &str) -> T {
     text.parse().unwrap_or_else(|_| usage())
 }
 
+fn program(name: &'static str, path: &str) -> Program {
+    Program { name, path: path.to_string() }
+}
+
 fn main() {
     let args: Vec<String> = std::env::args().collect();
     let args: Vec<&str> = args.iter().skip(1).map(String::as_str).collect();
     match args[..] {
         ["run", count, seed, mode @ ("tokens" | "sections"), oracle, replay] => {
-            let pair = Pair { oracle: oracle.to_string(), replay: replay.to_string() };
+            let pair = Pair { oracle: program("oracle", oracle), replay: program("replay", replay) };
             let same = compare(number(count), number(seed), mode == "sections", &pair);
             std::process::exit(if same { 0 } else { 1 });
         }
@@ -41,7 +39,7 @@ fn main() {
             let mut records = sample(number(tokens), false);
             records.extend(sample(number(sections), true));
             let input = records_bytes(&records);
-            let (output, well) = run(oracle, Arc::new(input.clone()));
+            let (output, well) = program("oracle", oracle).run(Arc::new(input.clone()));
             assert!(well, "the oracle did not end well");
             std::fs::write(stdin, &input).expect("write");
             std::fs::write(stdout, &output).expect("write");

@@ -1,0 +1,121 @@
+//! What is measured with the code at one place, and its form between two programs: a line with the places, then one for each text.
+use crate::families::Text;
+use crate::measure::{quartiles, Job, Quartiles};
+use gigboda::{property_section, tokenize};
+use spar::parser::Parser;
+use std::hint::black_box;
+use std::str::FromStr;
+
+/// As many words of each sort as a text can need.
+pub const WORDS: usize = 32_768;
+
+/// Code is fetched by lines of so many bytes.
+pub const LINE: usize = 64;
+
+/// Our tokens, the Rust's, our section, the Rust's, and a pass that only checks UTF-8; in nanoseconds per byte of a text.
+pub type Times = [Quartiles; 5];
+
+/// What one program measures: where in their lines our call and the Rust's stand, and the times of each text.
+pub struct Measured {
+    pub ours: usize,
+    pub rust: usize,
+    pub times: Vec<Times>,
+}
+
+/// The lent words, made once for each text.
+struct Lent {
+    tokens: Vec<u32>,
+    events: Vec<u32>,
+}
+
+impl Lent {
+    fn new() -> Lent {
+        Lent { tokens: vec![0; WORDS], events: vec![0; WORDS] }
+    }
+}
+
+/// How many tokens a text has.
+fn our_tokens(text: &str, lent: &mut [u32]) -> usize {
+    tokenize(text.as_bytes(), lent).expect("not refused").len()
+}
+
+/// How many tokens and events a section has.
+fn our_section(text: &str, lent: &mut Lent) -> (usize, usize) {
+    let section = property_section(text.as_bytes(), &mut lent.tokens, &mut lent.events).expect("not refused");
+    (section.token_words.len(), section.event_words.len())
+}
+
+fn rust_section(text: &str) -> (usize, usize) {
+    let tokens = spar::lexer::tokenize(text);
+    let mut parser = Parser::new(&tokens, text);
+    parser.run_property_section();
+    let events = black_box(parser.finish());
+    (tokens.len(), events.len())
+}
+
+/// The two read the same: no refusal, as many tokens and as many events; and it is clean where it is to be.
+fn check(text: &Text, lent: &mut Lent) {
+    let name = format!("{} {}", text.family, text.bytes);
+    let counts = our_section(&text.text, lent);
+    assert_eq!(counts, rust_section(&text.text), "{name}: counts differ");
+    assert_eq!(our_tokens(&text.text, &mut lent.tokens), counts.0, "{name}: the two calls differ");
+    let section = property_section(text.text.as_bytes(), &mut lent.tokens, &mut lent.events).expect("not refused");
+    assert_eq!(section.is_clean(), text.clean, "{name}: clean");
+}
+
+/// The five jobs of a text.
+fn jobs<'a>(source: &'a str, only: &'a mut [u32], lent: &'a mut Lent) -> [Job<'a>; 5] {
+    [
+        Job::new(move || our_tokens(black_box(source), only)),
+        Job::new(move || spar::lexer::tokenize(black_box(source))),
+        Job::new(move || our_section(black_box(source), lent)),
+        Job::new(move || rust_section(black_box(source))),
+        Job::new(move || std::str::from_utf8(black_box(source.as_bytes())).is_ok()),
+    ]
+}
+
+/// The times of all texts, measured in the same rounds.
+fn times(texts: &[Text]) -> Vec<Times> {
+    let mut lent: Vec<_> = texts.iter().map(|_| (vec![0; WORDS], Lent::new())).collect();
+    texts.iter().zip(&mut lent).for_each(|(text, (_, lent))| check(text, lent));
+    let mut all: Vec<Job> = texts.iter().zip(&mut lent).flat_map(|(t, (only, lent))| jobs(&t.text, only, lent)).collect();
+    let found = quartiles(&mut all);
+    let each = texts.iter().zip(found.chunks(5));
+    each.map(|(t, of_text)| {
+        let bytes = t.text.len() as f64;
+        std::array::from_fn(|job| Quartiles { lower: of_text[job].lower / bytes, upper: of_text[job].upper / bytes })
+    })
+    .collect()
+}
+
+/// Where in a line of code the library's tokens-only call and the Rust's `tokenize` stand.
+fn places() -> [usize; 2] {
+    extern "C" {
+        fn gigboda_tokenize();
+    }
+    [gigboda_tokenize as *const (), spar::lexer::tokenize as *const ()].map(|call| call as usize % LINE)
+}
+
+/// Measures all texts and prints what `parse` reads.
+pub fn print_measured(texts: &[Text]) {
+    let [ours, rust] = places();
+    println!("{ours} {rust}");
+    for of_text in times(texts) {
+        let numbers: Vec<String> = of_text.iter().flat_map(|q| [q.lower, q.upper]).map(|n| n.to_string()).collect();
+        println!("{}", numbers.join(" "));
+    }
+}
+
+fn numbers<T: FromStr>(line: &str) -> Option<Vec<T>> {
+    line.split(' ').map(|n| n.parse().ok()).collect()
+}
+
+pub fn parse(printed: &str) -> Option<Measured> {
+    let mut lines = printed.lines();
+    let [ours, rust] = numbers(lines.next()?)?.try_into().ok()?;
+    let times = lines.map(|line| {
+        let quartiles: Vec<Quartiles> = numbers(line)?.chunks_exact(2).map(|q| Quartiles { lower: q[0], upper: q[1] }).collect();
+        quartiles.try_into().ok()
+    });
+    Some(Measured { ours, rust, times: times.collect::<Option<_>>()? })
+}

@@ -1,0 +1,106 @@
+//! The table: for each text its times and ratios, medians over the places at which the library stood.
+use crate::families::Text;
+use crate::place::{Measured, Times};
+
+/// A line of the table. Of two numbers the first is for tokens, the second for sections.
+pub struct Row<'a> {
+    pub text: &'a Text,
+    /// Nanoseconds per byte.
+    ours: [f64; 2],
+    rust: [f64; 2],
+    utf8: f64,
+    /// How many times as fast as the Rust we are.
+    ratios: [f64; 2],
+    /// The largest upper quartile over its lower one.
+    spread: f64,
+}
+
+/// Of an even number of them the mean of the middle two.
+fn median(numbers: impl Iterator<Item = f64>) -> f64 {
+    let mut sorted: Vec<f64> = numbers.collect();
+    sorted.sort_by(f64::total_cmp);
+    let half = sorted.len() / 2;
+    (sorted[half] + sorted[(sorted.len() - 1) / 2]) / 2.0
+}
+
+fn largest(numbers: impl Iterator<Item = f64>) -> f64 {
+    numbers.fold(0.0, f64::max)
+}
+
+impl Row<'_> {
+    /// What the places have for a text.
+    fn new<'a>(text: &'a Text, places: &[&Times]) -> Row<'a> {
+        let time = |job: usize| median(places.iter().map(|t| t[job].lower));
+        let ratio = |ours: usize, rust: usize| median(places.iter().map(|t| t[rust].lower / t[ours].lower));
+        Row {
+            text,
+            ours: [time(0), time(2)],
+            rust: [time(1), time(3)],
+            utf8: time(4),
+            ratios: [ratio(0, 1), ratio(2, 3)],
+            spread: largest(places.iter().flat_map(|t| &t[..4]).map(|q| q.upper / q.lower)),
+        }
+    }
+
+    fn name(&self) -> String {
+        format!("{} {}", self.text.family, self.text.bytes)
+    }
+}
+
+/// The rows of all texts, of some places.
+pub fn rows<'a>(texts: &'a [Text], places: &[Measured]) -> Vec<Row<'a>> {
+    let of_text = |at: usize| places.iter().map(|place| &place.times[at]).collect::<Vec<_>>();
+    texts.iter().enumerate().map(|(at, text)| Row::new(text, &of_text(at))).collect()
+}
+
+pub fn print(rows: &[Row]) {
+    println!(
+        "{:<28} {:>6} {:>9} {:>9} {:>9} {:>9} {:>7} {:>8} {:>7} {:>6}",
+        "family", "bytes", "tokens", "Rust's", "sections", "Rust's", "tokens", "sections", "spread", "UTF-8"
+    );
+    for row in rows {
+        println!(
+            "{:<28} {:>6} {:>9.2} {:>9.2} {:>9.2} {:>9.2} {:>7.2} {:>8.2} {:>7.2} {:>6.2}",
+            row.text.family,
+            row.text.text.len(),
+            row.ours[0],
+            row.rust[0],
+            row.ours[1],
+            row.rust[1],
+            row.ratios[0],
+            row.ratios[1],
+            row.spread,
+            row.utf8
+        );
+    }
+}
+
+/// For each family, how flat our time per byte is over the sizes: the largest over the smallest.
+pub fn print_flatness(rows: &[Row]) {
+    for family in rows.chunk_by(|a, b| a.text.family == b.text.family) {
+        let flat = |call: usize| {
+            let times = family.iter().map(|row| row.ours[call]);
+            largest(times.clone()) / times.fold(f64::INFINITY, f64::min)
+        };
+        println!("flat {:<28} tokens {:.2} sections {:.2}", family[0].text.family, flat(0), flat(1));
+    }
+}
+
+pub fn print_spread(rows: &[Row]) {
+    let row = rows.iter().max_by(|a, b| a.spread.total_cmp(&b.spread)).expect("a text");
+    println!(
+        "spread {:.2} in the middle, at most {:.2} on {}",
+        median(rows.iter().map(|row| row.spread)),
+        row.spread,
+        row.name()
+    );
+}
+
+/// The lowest ratios of the realistic texts, and of all others.
+pub fn lowest(rows: &[Row]) -> String {
+    let (realistic, others): (Vec<&Row>, Vec<&Row>) = rows.iter().partition(|row| row.text.family == "realistic");
+    let of_call = |call: usize| realistic.iter().map(|row| row.ratios[call]).fold(f64::INFINITY, f64::min);
+    let each = others.iter().flat_map(|row| [(row.ratios[0], row, "tokens"), (row.ratios[1], row, "sections")]);
+    let (ratio, row, call) = each.min_by(|a, b| a.0.total_cmp(&b.0)).expect("a text");
+    format!("realistic tokens {:.2} sections {:.2}, worst {ratio:.2} on {} {call}", of_call(0), of_call(1), row.name())
+}
