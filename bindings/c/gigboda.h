@@ -70,7 +70,7 @@ enum gigboda_refusal {
     GIGBODA_REFUSAL_TOO_LONG = 1,      /* over 32,768 bytes; 32,768 */
     GIGBODA_REFUSAL_NOT_UTF8 = 2,      /* start of the first ill-formed sequence */
     GIGBODA_REFUSAL_NO_TOKEN_WORD = 3, /* more tokens than lent words; start of the first without one */
-    GIGBODA_REFUSAL_NO_PROPERTIES = 4, /* the first token that is not trivia; its start, or the text's length */
+    GIGBODA_REFUSAL_NO_PROPERTIES = 4, /* the first token but trivia is not `properties`; its start, or the text's length */
     GIGBODA_REFUSAL_NO_EVENT_WORD = 5, /* no event word left; start of the next token not taken, or the text's length */
     GIGBODA_REFUSAL_TOO_DEEP = 6       /* a 65th open `(`, `[`, `not` or sign; its start */
 };
@@ -260,16 +260,16 @@ static inline const char *gigboda_message_text(unsigned message)
 }
 
 /* Whether what the section call answered and left is clean: not refused, no Error event, and every token but trivia taken. That is so
- * exactly when the section grammar derives the text. An answer of the tokens-only call is never clean. */
+ * exactly when the section grammar derives the text. A refusal and an answer of the tokens-only call have no events and are not clean. */
 static inline int gigboda_is_clean(const struct gigboda_answer *answer, const uint32_t *tokens, const uint32_t *events)
 {
-    size_t untaken = 0, errors = 0, i;
+    size_t whole = 0, errors = 0, i;
 
     for (i = 0; i < answer->tokens; i++)
-        untaken += !gigboda_is_trivia(tokens[i]);
+        whole += !gigboda_is_trivia(tokens[i]);
     for (i = 0; i < answer->events; i++)
         errors += gigboda_event_class(events[i]) == GIGBODA_CLASS_ERROR;
-    return answer->number == GIGBODA_REFUSAL_NONE && answer->events > 0 && errors == 0 && untaken == answer->taken;
+    return answer->events > 0 && errors == 0 && whole == answer->taken;
 }
 
 /* ---- The tree ----
@@ -284,9 +284,9 @@ static inline int gigboda_is_clean(const struct gigboda_answer *answer, const ui
  * opens first, and a Start that another points to opens nothing again. The walk follows them with no memory but its own few numbers: the
  * node whose Start points to another Start ends just before that one, so it is found by counting back over its events. That is done at most
  * twice for a node, as its chain opens and as the Start behind it is met; a node within it is counted along. So the time grows with the
- * events and with how deep values are nested, at most 64 openers, but not with a chain's length. A text of 32 KB with a sum of 5,459 numbers
- * is walked through in 0.2 ms, about as long as the call takes; the longest time known, for 64 records in one another around a sum of 5,001
- * numbers, is 6 ms. */
+ * events and with how deep values are nested, at most 64 openers, but not with a chain's length. A text of 32 KB with a sum of 5,459
+ * numbers is walked through in 0.2 ms, about as long as the call takes; the longest time known, for 64 records in one another around a sum
+ * of 5,001 numbers, is 6 ms. */
 
 enum gigboda_step_sort {
     GIGBODA_STEP_ENTER, /* a node begins */
@@ -419,8 +419,8 @@ static inline int gigboda_walk_leave(struct gigboda_walk *walk, struct gigboda_s
 /* Goes past a Start that another points to: its node is open already. */
 static inline void gigboda_walk_over_used(struct gigboda_walk *walk)
 {
-    if (walk->event < walk->events_len && walk->opening == walk->events_len
-        && gigboda_event_class(walk->events[walk->event]) == GIGBODA_CLASS_START && gigboda_walk_inner(walk, walk->event) != walk->event)
+    if (walk->event < walk->events_len && gigboda_event_class(walk->events[walk->event]) == GIGBODA_CLASS_START
+        && gigboda_walk_inner(walk, walk->event) != walk->event)
         walk->event++;
 }
 

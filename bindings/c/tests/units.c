@@ -236,7 +236,8 @@ static void trees_are_walked(void)
     CHECK_SAME(shape("properties none;"), "(PROPERTY_SECTION properties none ; ) ");
     CHECK_SAME(shape("properties A => 1 ms;"),
                "(PROPERTY_SECTION properties (PROPERTY_ASSOCIATION (PROPERTY_REF A ) => (INTEGER_VALUE 1 ms ) ; ) ) ");
-    CHECK_SAME(shape("properties A 1"), "(PROPERTY_SECTION properties (PROPERTY_ASSOCIATION (PROPERTY_REF A ) !1 (INTEGER_VALUE 1 ) !261 ) ) ");
+    CHECK_SAME(shape("properties A 1"),
+               "(PROPERTY_SECTION properties (PROPERTY_ASSOCIATION (PROPERTY_REF A ) !1 (INTEGER_VALUE 1 ) !261 ) ) ");
     CHECK_SAME(shape("A => 1;"), "");
 }
 
@@ -244,8 +245,8 @@ static void forward_parents_are_followed(void)
 {
     CHECK_SAME(shape("properties A => 1 + 2 * 3 - 4 .. 5;"),
                "(PROPERTY_SECTION properties (PROPERTY_ASSOCIATION (PROPERTY_REF A ) => (RANGE_VALUE (BINARY_EXPR (BINARY_EXPR "
-               "(INTEGER_VALUE 1 ) + (BINARY_EXPR (INTEGER_VALUE 2 ) * (INTEGER_VALUE 3 ) ) ) - (INTEGER_VALUE 4 ) ) .. (INTEGER_VALUE 5 ) ) "
-               "; ) ) ");
+               "(INTEGER_VALUE 1 ) + (BINARY_EXPR (INTEGER_VALUE 2 ) * (INTEGER_VALUE 3 ) ) ) - (INTEGER_VALUE 4 ) ) "
+               ".. (INTEGER_VALUE 5 ) ) ; ) ) ");
     CHECK_SAME(shape("properties A => (1 + 2) * (3); B => a .. b;"),
                "(PROPERTY_SECTION properties (PROPERTY_ASSOCIATION (PROPERTY_REF A ) => (BINARY_EXPR (LIST_VALUE ( (BINARY_EXPR "
                "(INTEGER_VALUE 1 ) + (INTEGER_VALUE 2 ) ) ) ) * (LIST_VALUE ( (INTEGER_VALUE 3 ) ) ) ) ; ) "
@@ -255,7 +256,8 @@ static void forward_parents_are_followed(void)
 /* A step's sort and numbers in a row. */
 static const char *in_a_row(const struct gigboda_step *step)
 {
-    sprintf(shown, "%c %u %u %zu %zu %zu %zu", "ETLX"[step->sort], step->kind, step->message, step->depth, step->token, step->place, step->end);
+    sprintf(shown, "%c %u %u %zu %zu %zu %zu", "ETLX"[step->sort], step->kind, step->message, step->depth, step->token, step->place,
+            step->end);
     return shown;
 }
 
@@ -263,10 +265,10 @@ static const char *in_a_row(const struct gigboda_step *step)
 static void steps_say_where_they_are(void)
 {
     static const char *const wanted[] = {
-        "E 169 0 0 1 1 0",   "T 60 0 1 1 1 11",  "E 170 0 1 3 12 11", "E 171 0 2 3 12 11", "T 33 0 3 3 12 13", "L 0 0 2 5 14 13",
-        "T 18 0 2 5 14 16",  "E 183 0 2 6 16 16", "T 30 0 3 6 16 17", "L 0 0 2 8 18 17",   "E 172 0 2 8 18 17", "T 84 0 3 8 18 25",
-        "T 85 0 3 10 26 28", "E 173 0 3 12 29 28", "L 0 0 3 12 29 28", "L 0 0 2 12 29 28", "X 0 261 2 12 29 28", "L 0 0 1 12 29 28",
-        "L 0 0 0 12 29 28",
+        "E 169 0 0 1 1 0",    "T 60 0 1 1 1 11",   "E 170 0 1 3 12 11", "E 171 0 2 3 12 11",  "T 33 0 3 3 12 13",
+        "L 0 0 2 5 14 13",    "T 18 0 2 5 14 16",  "E 183 0 2 6 16 16", "T 30 0 3 6 16 17",   "L 0 0 2 8 18 17",
+        "E 172 0 2 8 18 17",  "T 84 0 3 8 18 25",  "T 85 0 3 10 26 28", "E 173 0 3 12 29 28", "L 0 0 3 12 29 28",
+        "L 0 0 2 12 29 28",   "X 0 261 2 12 29 28", "L 0 0 1 12 29 28", "L 0 0 0 12 29 28",
     };
     struct gigboda_answer answer = read_enough(" properties A =>1 applies to ");
     struct gigboda_walk walk = gigboda_walk_of(&answer, tokens, events);
@@ -278,8 +280,7 @@ static void steps_say_where_they_are(void)
     CHECK(i == sizeof wanted / sizeof wanted[0] && !gigboda_walk_next(&walk, &step));
 }
 
-/* Walks through the tree of what stands in `text`. Gives the greatest depth; the steps must be as many as the events, but for the Starts
- * that open early, each of which is one step all the same. */
+/* Walks through the tree of what stands in `text`; the greatest depth. Every event gives one step, also a Start whose node opens early. */
 static size_t walk_text(size_t length)
 {
     struct gigboda_answer answer = gigboda_read_section(text, length, tokens, GIGBODA_MOST_BYTES, events, GIGBODA_MOST_EVENTS);
@@ -321,7 +322,7 @@ static void long_chains_take_little_time(void)
     CHECK(took < 20);
 }
 
-/* The longest ways back for the most nodes: 64 records in one another around many sums, each record with a second field and a factor. */
+/* The longest ways back for the most nodes: 64 records in one another around a long sum, each with a second field and a factor. */
 static void deep_nests_take_little_time(void)
 {
     char begin[500], end[1000];
@@ -369,8 +370,9 @@ static void any_words_are_walked_to_an_end(void)
         struct gigboda_step step;
 
         for (steps = 0; steps <= 40 * 40 && gigboda_walk_next(&walk, &step); steps++)
-            all++;
+            CHECK(step.depth <= steps);
         CHECK(steps <= 40 * 40);
+        all += steps;
         free(some_tokens);
         free(some_events);
     }

@@ -82,6 +82,19 @@ impl Event {
     }
 }
 
+/// The refusal that an answer's number and place tell, if they do. A number that is none of the table's belongs to another library.
+fn refused(number: usize, place: usize) -> Result<(), Refused> {
+    match number {
+        0 => Ok(()),
+        _ => Err(Refused { refusal: Refusal::of(number).expect("libcapi.a of this crate's version"), place }),
+    }
+}
+
+/// Whether a token word is a space's or a comment's.
+fn is_trivia(word: u32) -> bool {
+    Kind::of(word / 65_536).is_some_and(Kind::is_trivia)
+}
+
 /// Cuts a text into tokens: the words that are filled, kind × 65,536 + length each. The words behind them stay as they were; a refusal
 /// leaves all of them 0.
 ///
@@ -92,20 +105,16 @@ impl Event {
 /// ```
 pub fn tokenize<'a>(text: &[u8], tokens: &'a mut [u32]) -> Result<&'a [u32], Refused> {
     let [number, place, count, ..] = calls::tokens(text, tokens);
-    match Refused::of(number, place) {
-        Some(refused) => Err(refused),
-        None => Ok(&tokens[..count]),
-    }
+    refused(number, place)?;
+    Ok(&tokens[..count])
 }
 
 /// Reads a property section: tokens and events into lent words, of which those that are not filled stay as they were. A refusal leaves
 /// all of them 0.
 pub fn property_section<'a>(text: &'a [u8], tokens: &'a mut [u32], events: &'a mut [u32]) -> Result<Section<'a>, Refused> {
     let [number, place, count, taken, pushed] = calls::section(text, tokens, events);
-    match Refused::of(number, place) {
-        Some(refused) => Err(refused),
-        None => Ok(Section { text, token_words: &tokens[..count], event_words: &events[..pushed], taken }),
-    }
+    refused(number, place)?;
+    Ok(Section { text, token_words: &tokens[..count], event_words: &events[..pushed], taken })
 }
 
 /// The text of a token by its number, from 0: a part of the text, or the empty part if there is no such word or the lengths up to it
@@ -173,8 +182,9 @@ impl<'a> Section<'a> {
 
     /// Whether there is no Error and every token is taken: exactly when the section grammar derives the text.
     pub fn is_clean(&self) -> bool {
-        let whole = self.tokens().filter(|t| !t.kind.is_trivia()).count();
-        whole == self.taken && !self.events().any(|e| matches!(e, Event::Error { .. }))
+        let whole = self.token_words.iter().filter(|word| !is_trivia(**word)).count();
+        let is_good = |word: &u32| !matches!(Event::of(*word), None | Some(Event::Error { .. }));
+        whole == self.taken && self.event_words.iter().all(is_good)
     }
 }
 

@@ -1,6 +1,6 @@
 //! The tree that events spell. A Start with a forward parent opens inside the node of the Start it points to, chains outermost first; a
 //! Start so used opens nothing again. A Token is a leaf; a Finish closes the innermost node.
-use crate::{Event, Kind, Message};
+use crate::{is_trivia, Event, Kind, Message};
 
 /// What a step through the tree meets.
 #[derive(Debug, Clone, Copy, PartialEq, Eq)]
@@ -53,8 +53,7 @@ impl<'a> Ahead<'a> {
     }
 
     fn pass_trivia(&mut self) {
-        let is_trivia = |word: &u32| Kind::of(word / 65_536).is_some_and(Kind::is_trivia);
-        while self.words.get(self.token).is_some_and(is_trivia) {
+        while self.words.get(self.token).is_some_and(|word| is_trivia(*word)) {
             self.pass();
         }
     }

@@ -64,11 +64,6 @@ pub struct Refused {
 }
 
 impl Refused {
-    /// The refusal that an answer's number and place tell, if they tell one.
-    pub(crate) fn of(number: usize, place: usize) -> Option<Refused> {
-        Refusal::of(number).map(|refusal| Refused { refusal, place })
-    }
-
     /// Line and column of the place in the text that was refused.
     pub fn position(&self, text: &[u8]) -> Position {
         position(text, self.place)
