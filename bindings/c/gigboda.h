@@ -93,25 +93,19 @@ static inline const char *gigboda_refusal_text(size_t number)
 /* ---- The library's functions. They want pointers that are not NULL, also where 0 elements are lent; the calls below see to that. ---- */
 
 /* The section call. Of the answer's five numbers, in the struct's order, as many are written as are lent. */
-void gigboda_property_section(const uint8_t *text, size_t text_len, uint32_t *tokens, size_t tokens_len, uint32_t *events,
+void gigboda_property_section(const char *text, size_t text_len, uint32_t *tokens, size_t tokens_len, uint32_t *events,
                               size_t events_len, size_t *answer, size_t answer_len);
 
 /* The tokens-only call. */
-void gigboda_tokenize(const uint8_t *text, size_t text_len, uint32_t *tokens, size_t tokens_len, size_t *answer, size_t answer_len);
+void gigboda_tokenize(const char *text, size_t text_len, uint32_t *tokens, size_t tokens_len, size_t *answer, size_t answer_len);
 
 /* Start and length of a token's text, as far as they are lent. */
-void gigboda_token_text(const uint8_t *text, size_t text_len, const uint32_t *words, size_t words_len, size_t number, size_t *part,
+void gigboda_token_text(const char *text, size_t text_len, const uint32_t *words, size_t words_len, size_t number, size_t *part,
                         size_t part_len);
 
 /* ---- The calls ---- */
 
-static inline const uint8_t *gigboda_bytes(const char *text)
-{
-    static const uint8_t none = 0;
-
-    return text ? (const uint8_t *)text : &none;
-}
-
+/* The answer that five numbers are. */
 static inline struct gigboda_answer gigboda_answer_of(const size_t *numbers)
 {
     struct gigboda_answer answer;
@@ -132,7 +126,7 @@ static inline struct gigboda_answer gigboda_read_section(const char *text, size_
     size_t numbers[5] = {0, 0, 0, 0, 0};
     uint32_t none[2];
 
-    gigboda_property_section(gigboda_bytes(text), text_len, tokens ? tokens : &none[0], tokens_len, events ? events : &none[1],
+    gigboda_property_section(text ? text : "", text_len, tokens ? tokens : &none[0], tokens_len, events ? events : &none[1],
                              events_len, numbers, 5);
     return gigboda_answer_of(numbers);
 }
@@ -143,7 +137,7 @@ static inline struct gigboda_answer gigboda_read_tokens(const char *text, size_t
     size_t numbers[5] = {0, 0, 0, 0, 0};
     uint32_t none;
 
-    gigboda_tokenize(gigboda_bytes(text), text_len, tokens ? tokens : &none, tokens_len, numbers, 5);
+    gigboda_tokenize(text ? text : "", text_len, tokens ? tokens : &none, tokens_len, numbers, 5);
     return gigboda_answer_of(numbers);
 }
 
@@ -162,7 +156,7 @@ static inline struct gigboda_part gigboda_token_part(const char *text, size_t te
     size_t numbers[2] = {0, 0};
     struct gigboda_part part;
 
-    gigboda_token_text(gigboda_bytes(text), text_len, tokens ? tokens : &none, tokens_len, number, numbers, 2);
+    gigboda_token_text(text ? text : "", text_len, tokens ? tokens : &none, tokens_len, number, numbers, 2);
     part.start = numbers[0];
     part.length = numbers[1];
     return part;

@@ -11,18 +11,18 @@ static void look(int good)
     bad += !good;
 }
 
-void gigboda_property_section(const uint8_t *text, size_t text_len, uint32_t *tokens, size_t tokens_len, uint32_t *events,
+void gigboda_property_section(const char *text, size_t text_len, uint32_t *tokens, size_t tokens_len, uint32_t *events,
                               size_t events_len, size_t *answer, size_t answer_len)
 {
     look(text && tokens && events && tokens != events && answer && text_len + tokens_len + events_len == 0 && answer_len == 5);
 }
 
-void gigboda_tokenize(const uint8_t *text, size_t text_len, uint32_t *tokens, size_t tokens_len, size_t *answer, size_t answer_len)
+void gigboda_tokenize(const char *text, size_t text_len, uint32_t *tokens, size_t tokens_len, size_t *answer, size_t answer_len)
 {
     look(text && tokens && answer && text_len + tokens_len == 0 && answer_len == 5);
 }
 
-void gigboda_token_text(const uint8_t *text, size_t text_len, const uint32_t *words, size_t words_len, size_t number, size_t *part,
+void gigboda_token_text(const char *text, size_t text_len, const uint32_t *words, size_t words_len, size_t number, size_t *part,
                         size_t part_len)
 {
     look(text && words && part && text_len + words_len + number == 0 && part_len == 2);

@@ -120,7 +120,7 @@ static void the_librarys_functions_keep_to_what_is_lent(void)
 {
     size_t answer[5] = {7, 7, 7, 7, 7};
 
-    gigboda_tokenize((const uint8_t *)"a", 1, tokens, 1, answer, 3);
+    gigboda_tokenize("a", 1, tokens, 1, answer, 3);
     CHECK(answer[0] == 0 && answer[1] == 0 && answer[2] == 1 && answer[3] == 7 && answer[4] == 7);
 }
 
