@@ -2,7 +2,7 @@
  *
  * Link with target/staticlib/libcapi.a, which `rt staticlib capi` writes (x86-64). The library has three functions, and they are proved:
  * crates/capi/src/lib.rt says what each leaves, for every text, every number of lent words and whatever the words hold. All else is
- * inline in this header and tested, not proved (bindings/c/test).
+ * inline in this header, which needs gigboda_kinds.h beside it, and is tested, not proved (bindings/c/test).
  *
  * What is lent is a pointer and a number of elements. Any number is allowed, 0 too, and then any pointer, NULL too. Buffers that are lent
  * to one call must not overlap. Nothing is kept after a call, nothing is allocated, and two threads may call at the same time with buffers
