@@ -1,72 +1,96 @@
-/* Calls each function of gigboda.h and prints what it gives: the tokens and events of the texts that are its arguments. What it
- * prints for the arguments that tools/bindings-test gives is example.stdout. */
+/* Shows a property section as a tree, with what is wrong in words:
+ *
+ *     example [FILE]
+ *
+ * reads FILE or standard input. It ends with 0 for a clean text, 1 for one that is refused or not clean, 2 if reading or writing
+ * failed. */
 #include "gigboda.h"
 #include <stdio.h>
-#include <string.h>
 
+static char text[GIGBODA_MOST_BYTES + 1]; /* one byte more than may be read: a longer text is refused 1 without being held */
 static uint32_t tokens[GIGBODA_MOST_BYTES];
 static uint32_t events[GIGBODA_MOST_EVENTS];
 
-static void print_tokens(const char *text, size_t count)
+static void print_place(size_t length, size_t place, const char *what)
 {
-    size_t part[2];
+    struct gigboda_position at = gigboda_position_of(text, length, place);
 
-    for (size_t i = 0; i < count; i++) {
-        if (gigboda_is_trivia(tokens[i]))
-            continue;
-        gigboda_token_text((const uint8_t *)text, strlen(text), tokens, count, i, part, 2);
-        printf("token %zu kind %u length %u at %zu: %.*s\n", i, gigboda_token_kind(tokens[i]), gigboda_token_length(tokens[i]), part[0],
-               (int)part[1], text + part[0]);
-    }
+    printf("line %zu, column %zu: %s\n", at.line, at.column, what);
 }
 
-static void print_events(size_t count)
+static void print_step(size_t length, const struct gigboda_step *step)
 {
-    for (size_t i = 0; i < count; i++)
-        printf("%zu,%c,%u,%u\n", i, "STFE"[gigboda_event_class(events[i])], gigboda_event_kind(events[i]), gigboda_event_last(events[i]));
-}
-
-/* How many words a refusal left 0, of some. */
-static size_t zeros(const uint32_t *words, size_t count)
-{
-    size_t n = 0;
-
-    for (size_t i = 0; i < count; i++)
-        n += words[i] == 0;
-    return n;
-}
-
-static void print_section(const char *text)
-{
-    size_t answer[GIGBODA_ANSWER];
-
-    gigboda_property_section((const uint8_t *)text, strlen(text), tokens, GIGBODA_MOST_BYTES, events, GIGBODA_MOST_EVENTS, answer,
-                             GIGBODA_ANSWER);
-    printf("section: %zu %zu %zu %zu %zu\n", answer[GIGBODA_NUMBER], answer[GIGBODA_PLACE], answer[GIGBODA_TOKENS],
-           answer[GIGBODA_TAKEN], answer[GIGBODA_EVENTS]);
-    if (answer[GIGBODA_NUMBER] != GIGBODA_READ) {
-        printf("zeros: %zu %zu\n", zeros(tokens, GIGBODA_MOST_BYTES), zeros(events, GIGBODA_MOST_EVENTS));
+    if (step->sort == GIGBODA_STEP_LEAVE)
         return;
+    printf("%*s", (int)(2 * step->depth), "");
+    if (step->sort == GIGBODA_STEP_ENTER) {
+        printf("%s\n", gigboda_kind_name(step->kind));
+    } else if (step->sort == GIGBODA_STEP_TOKEN) {
+        printf("%s ", gigboda_kind_name(step->kind));
+        fwrite(text + step->place, 1, step->end - step->place, stdout);
+        putchar('\n');
+    } else {
+        printf("! ");
+        print_place(length, step->place, gigboda_message_text(step->message));
     }
-    print_tokens(text, answer[GIGBODA_TOKENS]);
-    print_events(answer[GIGBODA_EVENTS]);
 }
 
-/* The tokens-only call with few words, and with three numbers of the answer. */
-static void print_few(const char *text, size_t lent)
+/* Prints the tree of a text that is not refused; 0 if it is clean. */
+static int print_tree(size_t length, const struct gigboda_answer *answer)
 {
-    size_t answer[GIGBODA_ANSWER] = {7, 7, 7, 7, 7};
+    struct gigboda_walk walk = gigboda_walk_of(answer, tokens, events);
+    struct gigboda_step step = {GIGBODA_STEP_ENTER, 0, 0, 0, 0, 0, 0};
 
-    gigboda_tokenize((const uint8_t *)text, strlen(text), tokens, lent, answer, 3);
-    printf("tokens of %zu words: %zu %zu %zu, not lent: %zu %zu\n", lent, answer[0], answer[1], answer[2], answer[3], answer[4]);
+    while (gigboda_walk_next(&walk, &step))
+        print_step(length, &step);
+    if (gigboda_is_clean(answer, tokens, events)) {
+        puts("clean");
+        return 0;
+    }
+    puts("not clean");
+    if (step.place < length)
+        print_place(length, step.place, "the section ends before this");
+    return 1;
 }
 
-int main(int count, char **texts)
+/* Reads all of a file, or as much as there is room for; 0 if that fails. */
+static int read_text(const char *name, size_t *length)
 {
-    for (int i = 1; i < count; i++) {
-        print_section(texts[i]);
-        print_few(texts[i], 3);
-        print_few(texts[i], 0);
+    FILE *file = name ? fopen(name, "rb") : stdin;
+    int good = file != NULL;
+
+    if (good) {
+        *length = fread(text, 1, sizeof text, file);
+        good = !ferror(file);
     }
-    return 0;
+    if (!good)
+        perror(name ? name : "standard input");
+    return good;
+}
+
+/* Prints what the text is; 0 if it is clean. */
+static int print_text(size_t length)
+{
+    struct gigboda_answer answer = gigboda_read_section(text, length, tokens, GIGBODA_MOST_BYTES, events, GIGBODA_MOST_EVENTS);
+
+    if (answer.number == GIGBODA_REFUSAL_NONE)
+        return print_tree(length, &answer);
+    printf("refused %zu; ", answer.number);
+    print_place(length, answer.place, gigboda_refusal_text(answer.number));
+    return 1;
+}
+
+int main(int count, char **arguments)
+{
+    size_t length = 0;
+    int status;
+
+    if (!read_text(count > 1 ? arguments[1] : NULL, &length))
+        return 2;
+    status = print_text(length);
+    if (fflush(stdout) != 0) {
+        perror("standard output");
+        return 2;
+    }
+    return status;
 }

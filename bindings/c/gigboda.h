@@ -1,11 +1,12 @@
-/* Gigboda's calls for C: the tokens of an AADL text, the events of its property section, and the text of a token.
+/* Gigboda for C99 and C++: the tokens of an AADL text, the events of its property section, the tree that they spell, all of it in words.
  *
- * Link with target/staticlib/libcapi.a, which `rt staticlib capi` writes (x86-64). The functions are proved: crates/capi/src/lib.rt
- * says what each leaves, for every text, every number of lent words and whatever the words hold.
+ * Link with target/staticlib/libcapi.a, which `rt staticlib capi` writes (x86-64). The library has three functions, and they are proved:
+ * crates/capi/src/lib.rt says what each leaves, for every text, every number of lent words and whatever the words hold. All else is
+ * inline in this header, which needs gigboda_kinds.h beside it, and is tested, not proved (bindings/c/test).
  *
- * What is lent is a pointer and a number of elements. Any number is allowed, 0 too; the pointer is then not read, but it must not
- * be NULL. Buffers that are lent to one call must not overlap. Nothing is kept after a call, nothing is allocated, and two threads may call at
- * the same time with buffers of their own.
+ * What is lent is a pointer and a number of elements. Any number is allowed, 0 too, and then any pointer, NULL too. Buffers that are lent
+ * to one call must not overlap. Nothing is kept after a call, nothing is allocated, and two threads may call at the same time with buffers
+ * of their own. example.c shows a use.
  */
 #ifndef GIGBODA_H
 #define GIGBODA_H
@@ -17,83 +18,441 @@
 extern "C" {
 #endif
 
-/* What is in the five numbers of an answer. */
-enum {
-    GIGBODA_NUMBER, /* 0, or the refusal's number */
-    GIGBODA_PLACE,  /* 0, or the byte of the text at which it is refused */
-    GIGBODA_TOKENS, /* how many token words are filled */
-    GIGBODA_TAKEN,  /* how many tokens, spaces and comments not counted, the section takes */
-    GIGBODA_EVENTS, /* how many event words are filled */
-    GIGBODA_ANSWER  /* how many numbers an answer has */
+#define GIGBODA_VERSION_MAJOR 0
+#define GIGBODA_VERSION_MINOR 2
+#define GIGBODA_VERSION_PATCH 0
+#define GIGBODA_QUOTED_NUMBERS(major, minor, patch) #major "." #minor "." #patch
+#define GIGBODA_QUOTED(major, minor, patch) GIGBODA_QUOTED_NUMBERS(major, minor, patch)
+#define GIGBODA_VERSION GIGBODA_QUOTED(GIGBODA_VERSION_MAJOR, GIGBODA_VERSION_MINOR, GIGBODA_VERSION_PATCH)
+
+/* The limits. A text has at most GIGBODA_MOST_BYTES bytes, and a token at least one: with as many token words no text is refused 3. Of the
+ * event words at most GIGBODA_MOST_EVENTS are used: with as many a text is refused 5 only if its section has more events than that, and
+ * more words do not help. `properties a=>` and 16,377 times `1,` is refused 5 whatever is lent. */
+#define GIGBODA_MOST_BYTES 32768
+#define GIGBODA_MOST_EVENTS 32768
+
+/* ---- Kinds ---- */
+
+/* GIGBODA_KIND_TOMBSTONE = 0, GIGBODA_KIND_EOF = 1 and so on: a constant for each row of gigboda_kinds.h. */
+enum gigboda_kind {
+#define GIGBODA_SPELLED(name, text) GIGBODA_KIND_##name,
+#define GIGBODA_NAMED(name) GIGBODA_KIND_##name,
+#include "gigboda_kinds.h"
+    GIGBODA_KIND_COUNT /* how many kinds there are */
+};
+
+/* A kind's name, such as `INTEGER_VALUE`. */
+static inline const char *gigboda_kind_name(unsigned kind)
+{
+    static const char *const names[] = {
+#define GIGBODA_SPELLED(name, text) #name,
+#define GIGBODA_NAMED(name) #name,
+#include "gigboda_kinds.h"
+    };
+
+    return kind < GIGBODA_KIND_COUNT ? names[kind] : "(no kind)";
+}
+
+/* ---- Answers ---- */
+
+/* What a call answers. A refusal has a number and a place, and 0 in the other three; else number and place are 0. */
+struct gigboda_answer {
+    size_t number; /* 0, or the refusal's number */
+    size_t place;  /* 0, or the byte of the text at which it is refused, from 0 */
+    size_t tokens; /* how many token words are filled */
+    size_t taken;  /* how many tokens, spaces and comments not counted, the section takes */
+    size_t events; /* how many event words are filled */
 };
 
 /* Why a text is refused, and what the place is then. */
 enum gigboda_refusal {
-    GIGBODA_READ = 0,          /* not refused */
-    GIGBODA_TOO_LONG = 1,      /* over 32,768 bytes; 32,768 */
-    GIGBODA_NOT_UTF8 = 2,      /* start of the first ill-formed sequence */
-    GIGBODA_NO_TOKEN_WORD = 3, /* more tokens than lent words; start of the first without one */
-    GIGBODA_NO_PROPERTIES = 4, /* the first token is not `properties`; its start, or the text's length */
-    GIGBODA_NO_EVENT_WORD = 5, /* no event word left; start of the next token not taken, or the text's length */
-    GIGBODA_TOO_DEEP = 6       /* a 65th open `(`, `[`, `not` or sign; its start */
+    GIGBODA_REFUSAL_NONE = 0,          /* not refused */
+    GIGBODA_REFUSAL_TOO_LONG = 1,      /* over 32,768 bytes; 32,768 */
+    GIGBODA_REFUSAL_NOT_UTF8 = 2,      /* start of the first ill-formed sequence */
+    GIGBODA_REFUSAL_NO_TOKEN_WORD = 3, /* more tokens than lent words; start of the first without one */
+    GIGBODA_REFUSAL_NO_PROPERTIES = 4, /* the first token but trivia is not `properties`; its start, or the text's length */
+    GIGBODA_REFUSAL_NO_EVENT_WORD = 5, /* no event word left; start of the next token not taken, or the text's length */
+    GIGBODA_REFUSAL_TOO_DEEP = 6       /* a 65th open `(`, `[`, `not` or sign; its start */
 };
 
-/* Most bytes of a text, and most events of a section: with as many words of each sort no text is refused 3 or 5 that need not be. */
-#define GIGBODA_MOST_BYTES 32768
-#define GIGBODA_MOST_EVENTS 32768
+/* A refusal's number in words, those of docs/REFUSALS.md. */
+static inline const char *gigboda_refusal_text(size_t number)
+{
+    switch (number) {
+    case GIGBODA_REFUSAL_NONE: return "not refused";
+    case GIGBODA_REFUSAL_TOO_LONG: return "the text is too long";
+    case GIGBODA_REFUSAL_NOT_UTF8: return "the text is not UTF-8";
+    case GIGBODA_REFUSAL_NO_TOKEN_WORD: return "more tokens than the tool has room for";
+    case GIGBODA_REFUSAL_NO_PROPERTIES: return "the text does not begin with `properties`";
+    case GIGBODA_REFUSAL_NO_EVENT_WORD: return "more events than the tool has room for";
+    case GIGBODA_REFUSAL_TOO_DEEP: return "nested more than 64 deep";
+    default: return "(no refusal)";
+    }
+}
 
-/* The section call. Writes the text's tokens into the first token words and the events of its property section into the first event
- * words; the words behind them stay as they were. A refusal (1 to 6) leaves every lent word 0. Of the five numbers of the answer as many are
- * written as are lent. */
-void gigboda_property_section(const uint8_t *text, size_t text_len, uint32_t *tokens, size_t tokens_len, uint32_t *events,
+/* ---- The library's functions. They want pointers that are not NULL, also where 0 elements are lent; the calls below see to that. ---- */
+
+/* The section call. Of the answer's five numbers, in the struct's order, as many are written as are lent. */
+void gigboda_property_section(const char *text, size_t text_len, uint32_t *tokens, size_t tokens_len, uint32_t *events,
                               size_t events_len, size_t *answer, size_t answer_len);
 
-/* The tokens-only call: the same without a section. It has the refusals 1 to 3, and answers 0 taken and 0 events. */
-void gigboda_tokenize(const uint8_t *text, size_t text_len, uint32_t *tokens, size_t tokens_len, size_t *answer, size_t answer_len);
+/* The tokens-only call. */
+void gigboda_tokenize(const char *text, size_t text_len, uint32_t *tokens, size_t tokens_len, size_t *answer, size_t answer_len);
 
-/* The text of the token with a number, counted from 0: part[0] is where it starts in the text and part[1] its length, as far as
- * they are lent. Any words are allowed. The length is 0 if there is no such word, or if the lengths up to it pass the text's end; start and
- * length always lie within the text. */
-void gigboda_token_text(const uint8_t *text, size_t text_len, const uint32_t *words, size_t words_len, size_t number, size_t *part,
+/* Start and length of a token's text, as far as they are lent. */
+void gigboda_token_text(const char *text, size_t text_len, const uint32_t *words, size_t words_len, size_t number, size_t *part,
                         size_t part_len);
+
+/* ---- The calls ---- */
+
+/* The answer that five numbers are. */
+static inline struct gigboda_answer gigboda_answer_of(const size_t *numbers)
+{
+    struct gigboda_answer answer;
+
+    answer.number = numbers[0];
+    answer.place = numbers[1];
+    answer.tokens = numbers[2];
+    answer.taken = numbers[3];
+    answer.events = numbers[4];
+    return answer;
+}
+
+/* The section call. Writes the text's tokens into the first token words and the events of its property section into the first event
+ * words; the words behind them stay as they were. A refusal (1 to 6) leaves every lent word 0. */
+static inline struct gigboda_answer gigboda_read_section(const char *text, size_t text_len, uint32_t *tokens, size_t tokens_len,
+                                                         uint32_t *events, size_t events_len)
+{
+    size_t numbers[5] = {0, 0, 0, 0, 0};
+    uint32_t none[2];
+
+    gigboda_property_section(text ? text : "", text_len, tokens ? tokens : &none[0], tokens_len, events ? events : &none[1],
+                             events_len, numbers, 5);
+    return gigboda_answer_of(numbers);
+}
+
+/* The tokens-only call: the same without a section. It has the refusals 1 to 3, and answers 0 taken and 0 events. */
+static inline struct gigboda_answer gigboda_read_tokens(const char *text, size_t text_len, uint32_t *tokens, size_t tokens_len)
+{
+    size_t numbers[5] = {0, 0, 0, 0, 0};
+    uint32_t none;
+
+    gigboda_tokenize(text ? text : "", text_len, tokens ? tokens : &none, tokens_len, numbers, 5);
+    return gigboda_answer_of(numbers);
+}
+
+/* A part of a text. */
+struct gigboda_part {
+    size_t start;
+    size_t length;
+};
+
+/* The text of the token with a number, from 0. Any words are allowed. The length is 0 if there is no such word, or if the lengths up to
+ * it pass the text's end; start and length always lie within the text. */
+static inline struct gigboda_part gigboda_token_part(const char *text, size_t text_len, const uint32_t *tokens, size_t tokens_len,
+                                                     size_t number)
+{
+    static const uint32_t none = 0;
+    size_t numbers[2] = {0, 0};
+    struct gigboda_part part;
+
+    gigboda_token_text(text ? text : "", text_len, tokens ? tokens : &none, tokens_len, number, numbers, 2);
+    part.start = numbers[0];
+    part.length = numbers[1];
+    return part;
+}
+
+/* ---- Places ---- */
+
+/* Line and column, both from 1. LF ends a line. */
+struct gigboda_position {
+    size_t line;
+    size_t column;
+};
+
+/* Where a place is, a byte of the text from 0; the text's end for any place behind it. Columns are bytes. It goes through the text up to
+ * the place. */
+static inline struct gigboda_position gigboda_position_of(const char *text, size_t text_len, size_t place)
+{
+    struct gigboda_position at;
+    size_t i;
+
+    at.line = 1;
+    at.column = 1;
+    for (i = 0; i < place && i < text_len; i++) {
+        at.column++;
+        if (text[i] == '\n') {
+            at.line++;
+            at.column = 1;
+        }
+    }
+    return at;
+}
+
+/* ---- Words ---- */
 
 /* A token word: kind and length in bytes. */
 static inline unsigned gigboda_token_kind(uint32_t word) { return word / 65536; }
 static inline unsigned gigboda_token_length(uint32_t word) { return word % 65536; }
 
 /* Spaces and comments are trivia: tokens that a section's events do not mention. */
-enum { GIGBODA_WHITESPACE = 3, GIGBODA_COMMENT = 4 };
 static inline int gigboda_is_trivia(uint32_t word)
 {
-    return gigboda_token_kind(word) == GIGBODA_WHITESPACE || gigboda_token_kind(word) == GIGBODA_COMMENT;
+    return gigboda_token_kind(word) == GIGBODA_KIND_WHITESPACE || gigboda_token_kind(word) == GIGBODA_KIND_COMMENT;
 }
 
 /* An event word: class, kind, and a last field that the class explains. */
 enum gigboda_class {
-    GIGBODA_START = 0,  /* a node of that kind; last is its forward parent, 0 for none */
-    GIGBODA_TOKEN = 1,  /* the next token that is not trivia, of that kind; last is 1 */
-    GIGBODA_FINISH = 2, /* the innermost node ends; kind and last are 0 */
-    GIGBODA_ERROR = 3   /* last is the message, kind is 0 */
+    GIGBODA_CLASS_START = 0,  /* a node of that kind; last is its forward parent, 0 for none */
+    GIGBODA_CLASS_TOKEN = 1,  /* the next token that is not trivia, of that kind; last is 1 */
+    GIGBODA_CLASS_FINISH = 2, /* the innermost node ends; kind and last are 0 */
+    GIGBODA_CLASS_ERROR = 3   /* last is the message, kind is 0 */
 };
 static inline unsigned gigboda_event_class(uint32_t word) { return word / 16777216; }
 static inline unsigned gigboda_event_kind(uint32_t word) { return word / 65536 % 256; }
 static inline unsigned gigboda_event_last(uint32_t word) { return word % 65536; }
 
-/* A Start with a forward parent opens inside the node of the Start that stands so many events further on; of a chain of them the outermost
- * opens first, and a Start that another points to opens nothing again. bindings/rust follows them. */
-
 /* Messages of Error events; 256 + kind: a token of that kind is missing. */
 enum gigboda_message {
-    GIGBODA_NO_ARROW = 1,               /* neither `=>` nor `+=>` */
-    GIGBODA_NO_NAME_IN_SET = 2,         /* no property name after `::` */
-    GIGBODA_NO_NAME = 3,                /* no property name; never met */
-    GIGBODA_C_STYLE = 4,                /* `0x1F` and the like */
-    GIGBODA_NO_EXPRESSION = 5,          /* no expression */
-    GIGBODA_NO_IDENTIFIER = 6,          /* no identifier after `::` */
-    GIGBODA_NO_IMPLEMENTATION = 7,      /* no implementation name after `.` */
-    GIGBODA_VIRTUAL_ALONE = 8,          /* `virtual` without `bus` or `processor` */
-    GIGBODA_MISSING = 256               /* added to the kind that is missing */
+    GIGBODA_MESSAGE_NO_ARROW = 1,
+    GIGBODA_MESSAGE_NO_NAME_IN_SET = 2,
+    GIGBODA_MESSAGE_NO_NAME = 3, /* never met */
+    GIGBODA_MESSAGE_C_STYLE = 4,
+    GIGBODA_MESSAGE_NO_EXPRESSION = 5,
+    GIGBODA_MESSAGE_NO_IDENTIFIER = 6,
+    GIGBODA_MESSAGE_NO_IMPLEMENTATION = 7,
+    GIGBODA_MESSAGE_VIRTUAL_ALONE = 8,
+    GIGBODA_MESSAGE_MISSING = 256 /* added to the kind that is missing */
 };
+
+/* The message that a token of a kind is missing, in words: a mark or keyword as it is written, else the kind's name. */
+static inline const char *gigboda_missing_text(unsigned kind)
+{
+    static const char *const texts[] = {
+#define GIGBODA_SPELLED(name, text) "expected " text,
+#define GIGBODA_NAMED(name) "expected " #name,
+#include "gigboda_kinds.h"
+    };
+
+    return kind < GIGBODA_KIND_COUNT ? texts[kind] : "(no message)";
+}
+
+/* A message in words, those of docs/REFUSALS.md. */
+static inline const char *gigboda_message_text(unsigned message)
+{
+    switch (message) {
+    case GIGBODA_MESSAGE_NO_ARROW: return "no `=>` or `+=>` after a property's name";
+    case GIGBODA_MESSAGE_NO_NAME_IN_SET: return "no property name after `::`";
+    case GIGBODA_MESSAGE_NO_NAME: return "no property name";
+    case GIGBODA_MESSAGE_C_STYLE: return "a number written as in C, with `0x`, `0o` or `0b`";
+    case GIGBODA_MESSAGE_NO_EXPRESSION: return "no value where one must stand";
+    case GIGBODA_MESSAGE_NO_IDENTIFIER: return "no name after `::` in a classifier";
+    case GIGBODA_MESSAGE_NO_IMPLEMENTATION: return "no implementation name after `.` in a classifier";
+    case GIGBODA_MESSAGE_VIRTUAL_ALONE: return "`virtual` without `bus` or `processor` after it";
+    default: return message < GIGBODA_MESSAGE_MISSING ? "(no message)" : gigboda_missing_text(message - GIGBODA_MESSAGE_MISSING);
+    }
+}
+
+/* Whether what the section call answered and left is clean: not refused, no Error event, and every token but trivia taken. That is so
+ * exactly when the section grammar derives the text. A refusal and an answer of the tokens-only call have no events and are not clean. */
+static inline int gigboda_is_clean(const struct gigboda_answer *answer, const uint32_t *tokens, const uint32_t *events)
+{
+    size_t whole = 0, errors = 0, i;
+
+    for (i = 0; i < answer->tokens; i++)
+        whole += !gigboda_is_trivia(tokens[i]);
+    for (i = 0; i < answer->events; i++)
+        errors += gigboda_event_class(events[i]) == GIGBODA_CLASS_ERROR;
+    return answer->events > 0 && errors == 0 && whole == answer->taken;
+}
+
+/* ---- The tree ----
+ *
+ *     struct gigboda_walk walk = gigboda_walk_of(&answer, tokens, events);
+ *     struct gigboda_step step;
+ *
+ *     while (gigboda_walk_next(&walk, &step))
+ *         ..
+ *
+ * A Start with a forward parent opens inside the node of the Start that stands so many events further on; of a chain of them the outermost
+ * opens first, and a Start that another points to opens nothing again. The walk follows them with no memory but its own few numbers: the
+ * node whose Start points to another Start ends just before that one, so it is found by counting back over its events. That is done at most
+ * twice for a node, as its chain opens and as the Start behind it is met; a node within it is counted along. So the time grows with the
+ * events and with how deep values are nested, at most 64 openers, but not with a chain's length. A text of 32 KB with a sum of 5,459
+ * numbers is walked through in 0.2 ms, about as long as the call takes; the longest time known, for 64 records in one another around a sum
+ * of 5,001 numbers, is 6 ms. */
+
+enum gigboda_step_sort {
+    GIGBODA_STEP_ENTER, /* a node begins */
+    GIGBODA_STEP_TOKEN, /* a token of the innermost node */
+    GIGBODA_STEP_LEAVE, /* the innermost node ends */
+    GIGBODA_STEP_ERROR  /* a message */
+};
+
+/* A step through the tree. A node's text goes from the place of its ENTER to the end of its LEAVE; a node without tokens has that end
+ * before that place, or at it. */
+struct gigboda_step {
+    enum gigboda_step_sort sort;
+    unsigned kind;    /* of the node that begins, or of the token; else 0 */
+    unsigned message; /* of an ERROR; else 0 */
+    size_t depth;     /* how many nodes are around the node, the token or the message */
+    size_t token;     /* a TOKEN's number among all tokens, from 0; else the next one's that is not taken, or how many there are */
+    size_t place;     /* where that token starts, or the text's end */
+    size_t end;       /* where the last token ends that was taken, a TOKEN's own end; 0 before the first */
+};
+
+/* Where a walk stands. Its fields are its own. */
+struct gigboda_walk {
+    const uint32_t *tokens, *events;
+    size_t tokens_len, events_len;
+    size_t event;   /* the next event */
+    size_t opening; /* of a chain that is being opened, the Start of the node to enter next; else events_len */
+    size_t depth;   /* how many nodes are open */
+    size_t token, place, end;
+};
+
+/* Goes on to the next token that is not trivia. */
+static inline void gigboda_walk_over_trivia(struct gigboda_walk *walk)
+{
+    for (; walk->token < walk->tokens_len && gigboda_is_trivia(walk->tokens[walk->token]); walk->token++)
+        walk->place += gigboda_token_length(walk->tokens[walk->token]);
+}
+
+/* The walk through the tree that the section call answered and left. The words must stay as they are until it ends. */
+static inline struct gigboda_walk gigboda_walk_of(const struct gigboda_answer *answer, const uint32_t *tokens, const uint32_t *events)
+{
+    struct gigboda_walk walk;
+
+    walk.tokens = tokens;
+    walk.events = events;
+    walk.tokens_len = answer->tokens;
+    walk.events_len = answer->events;
+    walk.event = 0;
+    walk.opening = walk.events_len;
+    walk.depth = 0;
+    walk.token = 0;
+    walk.place = 0;
+    walk.end = 0;
+    gigboda_walk_over_trivia(&walk);
+    return walk;
+}
+
+/* The Start at the outer end of a Start's chain. */
+static inline size_t gigboda_walk_outermost(const struct gigboda_walk *walk, size_t start)
+{
+    size_t last = gigboda_event_last(walk->events[start]);
+
+    while (last != 0 && last < walk->events_len - start && gigboda_event_class(walk->events[start + last]) == GIGBODA_CLASS_START) {
+        start += last;
+        last = gigboda_event_last(walk->events[start]);
+    }
+    return start;
+}
+
+/* The Start that points to a Start, or that Start itself if none does. It is the Start of the node whose Finish stands before: going back,
+ * the first at which there are as many Starts as Finishes. */
+static inline size_t gigboda_walk_inner(const struct gigboda_walk *walk, size_t start)
+{
+    size_t finishes = 0, at = start;
+
+    if (start == 0 || gigboda_event_class(walk->events[start - 1]) != GIGBODA_CLASS_FINISH)
+        return start;
+    while (at > 0) {
+        unsigned sort = gigboda_event_class(walk->events[--at]);
+
+        finishes += sort == GIGBODA_CLASS_FINISH;
+        if (sort == GIGBODA_CLASS_START && --finishes == 0)
+            return gigboda_event_last(walk->events[at]) == start - at ? at : start;
+    }
+    return start;
+}
+
+/* Enters the next node of the chain that begins at the next event, from its outer end on. */
+static inline void gigboda_walk_enter(struct gigboda_walk *walk, struct gigboda_step *step)
+{
+    size_t entered = walk->opening < walk->events_len ? walk->opening : gigboda_walk_outermost(walk, walk->event);
+
+    step->sort = GIGBODA_STEP_ENTER;
+    step->kind = gigboda_event_kind(walk->events[entered]);
+    walk->depth++;
+    if (entered == walk->event) {
+        walk->opening = walk->events_len;
+        walk->event++;
+    } else {
+        walk->opening = gigboda_walk_inner(walk, entered);
+        if (walk->opening == entered || walk->opening < walk->event)
+            walk->opening = walk->event;
+    }
+}
+
+/* Takes the next token, if there is one. */
+static inline int gigboda_walk_take(struct gigboda_walk *walk, struct gigboda_step *step)
+{
+    if (walk->token >= walk->tokens_len)
+        return 0;
+    step->sort = GIGBODA_STEP_TOKEN;
+    step->kind = gigboda_event_kind(walk->events[walk->event++]);
+    walk->end = walk->place + gigboda_token_length(walk->tokens[walk->token++]);
+    walk->place = walk->end;
+    step->end = walk->end;
+    gigboda_walk_over_trivia(walk);
+    return 1;
+}
+
+/* Leaves the innermost node, if one is open. */
+static inline int gigboda_walk_leave(struct gigboda_walk *walk, struct gigboda_step *step)
+{
+    if (walk->depth == 0)
+        return 0;
+    step->sort = GIGBODA_STEP_LEAVE;
+    step->depth = --walk->depth;
+    walk->event++;
+    return 1;
+}
+
+/* Goes past a Start that another points to: its node is open already. */
+static inline void gigboda_walk_over_used(struct gigboda_walk *walk)
+{
+    if (walk->event < walk->events_len && gigboda_event_class(walk->events[walk->event]) == GIGBODA_CLASS_START
+        && gigboda_walk_inner(walk, walk->event) != walk->event)
+        walk->event++;
+}
+
+/* What a step says of where the walk stands. */
+static inline void gigboda_walk_stands(const struct gigboda_walk *walk, struct gigboda_step *step)
+{
+    step->kind = 0;
+    step->message = 0;
+    step->depth = walk->depth;
+    step->token = walk->token;
+    step->place = walk->place;
+    step->end = walk->end;
+}
+
+/* Makes the next step: 1, or 0 at the end. Words that no call left end the walk early, or give steps that mean nothing; nothing outside
+ * them is read. */
+static inline int gigboda_walk_next(struct gigboda_walk *walk, struct gigboda_step *step)
+{
+    gigboda_walk_over_used(walk);
+    if (walk->event >= walk->events_len)
+        return 0;
+    gigboda_walk_stands(walk, step);
+    switch (gigboda_event_class(walk->events[walk->event])) {
+    case GIGBODA_CLASS_START:
+        gigboda_walk_enter(walk, step);
+        return 1;
+    case GIGBODA_CLASS_TOKEN:
+        return gigboda_walk_take(walk, step);
+    case GIGBODA_CLASS_FINISH:
+        return gigboda_walk_leave(walk, step);
+    case GIGBODA_CLASS_ERROR:
+        step->sort = GIGBODA_STEP_ERROR;
+        step->message = gigboda_event_last(walk->events[walk->event++]);
+        return 1;
+    default:
+        return 0;
+    }
+}
 
 #ifdef __cplusplus
 }

@@ -1,116 +1,120 @@
-//! Gigboda from Rust: the tokens of an AADL text, the events of its property section, and the tree that the events spell. The calls are
-//! proved; this crate hands them slices and takes their words apart.
+//! Gigboda from Rust: the tokens of an AADL text, the events of its property section, the tree that they spell, and all of it in words. The
+//! calls are proved; this crate hands them slices and takes their words apart, which is tested.
 //!
-//! ```no_run
-//! let (mut tokens, mut events) = (vec![0; 1024], vec![0; 4096]);
-//! match gigboda::property_section(b"properties A => 1 ms;", &mut tokens, &mut events) {
-//!     Ok(section) => section.nodes().for_each(|n| println!("{n:?}")),
-//!     Err(refused) => println!("{:?} at byte {}", refused.refusal, refused.place),
-//! }
 //! ```
+//! use gigboda::Node;
 //!
-//! Kinds are numbers, in the order of the Rust parser's `SyntaxKind`.
+//! let text = b"properties\n  A => 1 ms\n";
+//! let (mut tokens, mut events) = (vec![0; gigboda::MOST_BYTES], vec![0; gigboda::MOST_EVENTS]);
+//! let mut told = Vec::new();
+//! match gigboda::property_section(text, &mut tokens, &mut events) {
+//!     Err(refused) => told.push(format!("{}: {refused}", refused.position(text))),
+//!     Ok(section) => {
+//!         for step in section.nodes() {
+//!             let indent = "  ".repeat(step.depth);
+//!             match step.node {
+//!                 Node::Enter(kind) => println!("{indent}{kind}"),
+//!                 Node::Token(kind) => println!("{indent}{kind} {}", String::from_utf8_lossy(&text[step.place..step.end])),
+//!                 Node::Error(message) => told.push(format!("{}: {message}", section.position(step.place))),
+//!                 Node::Leave => {}
+//!             }
+//!         }
+//!         assert!(!section.is_clean());
+//!     }
+//! }
+//! assert_eq!(told, ["line 3, column 1: expected `;`"]);
+//! ```
 mod calls;
+mod kinds;
+mod messages;
 mod nodes;
+mod places;
+mod refusals;
 
-pub use nodes::{Node, Nodes};
+pub use kinds::Kind;
+pub use messages::Message;
+pub use nodes::{Node, Nodes, Step};
+pub use places::{position, Position};
+pub use refusals::{Refusal, Refused};
 use std::ops::Range;
 
-/// Most bytes of a text, and most events of a section: as many words of a sort are always enough.
+/// Most bytes of a text. A token has at least one: with as many token words no text is refused 3.
 pub const MOST_BYTES: usize = 32_768;
+
+/// Most event words that are used. With as many a text is refused 5 only if its section has more events than that, and more words do not
+/// help: `properties a=>` and 16,377 times `1,` is refused 5 whatever is lent.
 pub const MOST_EVENTS: usize = 32_768;
-
-/// Kinds of the tokens that events do not mention.
-pub const WHITESPACE: u8 = 3;
-pub const COMMENT: u8 = 4;
-
-/// Why a text is refused.
-#[derive(Debug, Clone, Copy, PartialEq, Eq)]
-pub enum Refusal {
-    /// Over 32,768 bytes.
-    TooLong = 1,
-    /// Not UTF-8; the place is the start of the first ill-formed sequence.
-    NotUtf8 = 2,
-    /// More tokens than lent words; the place is the start of the first without one.
-    NoTokenWord = 3,
-    /// The first token that is not trivia is not `properties`; the place is its start, or the text's length.
-    NoProperties = 4,
-    /// No event word left; the place is the start of the next token, or the text's length.
-    NoEventWord = 5,
-    /// A 65th open `(`, `[`, `not` or sign; the place is its start.
-    TooDeep = 6,
-}
-
-/// A refusal and its place, a byte of the text.
-#[derive(Debug, Clone, Copy, PartialEq, Eq)]
-pub struct Refused {
-    pub refusal: Refusal,
-    pub place: usize,
-}
 
 /// A token: its kind, and where it stands in the text.
 #[derive(Debug, Clone, PartialEq, Eq)]
 pub struct Token {
-    pub kind: u8,
+    pub kind: Kind,
     pub range: Range<usize>,
 }
 
 /// An event. A Start with a forward parent opens inside the node of the Start that stands so many events further on.
 #[derive(Debug, Clone, Copy, PartialEq, Eq)]
 pub enum Event {
-    Start { kind: u8, forward_parent: Option<u16> },
-    Token { kind: u8 },
+    Start { kind: Kind, forward_parent: Option<u16> },
+    Token { kind: Kind },
     Finish,
-    /// Messages have the numbers that bindings/c/gigboda.h names.
-    Error { message: u16 },
+    Error { message: Message },
 }
 
 impl Event {
-    /// The event in a word, if its class is one.
+    /// The event in a word, if there is such a class, kind or message.
+    ///
+    /// ```
+    /// use gigboda::{Event, Kind};
+    /// assert_eq!(Event::of(20_709_377), Some(Event::Token { kind: Kind::PROPERTIES_KW }));
+    /// ```
     pub fn of(word: u32) -> Option<Event> {
         let [class, kind, high, low] = word.to_be_bytes();
+        let kind = Kind::of(kind.into())?;
         let last = u16::from_be_bytes([high, low]);
         match class {
             0 => Some(Event::Start { kind, forward_parent: Some(last).filter(|n| *n != 0) }),
             1 => Some(Event::Token { kind }),
             2 => Some(Event::Finish),
-            3 => Some(Event::Error { message: last }),
+            3 => Message::of(last).map(|message| Event::Error { message }),
             _ => None,
         }
     }
 }
 
-fn refused(number: usize, place: usize) -> Option<Refused> {
-    let refusal = match number {
-        1 => Refusal::TooLong,
-        2 => Refusal::NotUtf8,
-        3 => Refusal::NoTokenWord,
-        4 => Refusal::NoProperties,
-        5 => Refusal::NoEventWord,
-        6 => Refusal::TooDeep,
-        _ => return None,
-    };
-    Some(Refused { refusal, place })
+/// The refusal that an answer's number and place tell, if they do. A number that is none of the table's belongs to another library.
+fn refused(number: usize, place: usize) -> Result<(), Refused> {
+    match number {
+        0 => Ok(()),
+        _ => Err(Refused { refusal: Refusal::of(number).expect("libcapi.a of this crate's version"), place }),
+    }
+}
+
+/// Whether a token word is a space's or a comment's.
+fn is_trivia(word: u32) -> bool {
+    Kind::of(word / 65_536).is_some_and(Kind::is_trivia)
 }
 
 /// Cuts a text into tokens: the words that are filled, kind × 65,536 + length each. The words behind them stay as they were; a refusal
 /// leaves all of them 0.
+///
+/// ```
+/// let mut words = [7; 4];
+/// assert_eq!(gigboda::tokenize(b"A => 1", &mut words).unwrap_err().place, 5);
+/// assert_eq!(gigboda::tokenize(b"A;", &mut words).unwrap().len(), 2);
+/// ```
 pub fn tokenize<'a>(text: &[u8], tokens: &'a mut [u32]) -> Result<&'a [u32], Refused> {
     let [number, place, count, ..] = calls::tokens(text, tokens);
-    match refused(number, place) {
-        Some(r) => Err(r),
-        None => Ok(&tokens[..count]),
-    }
+    refused(number, place)?;
+    Ok(&tokens[..count])
 }
 
 /// Reads a property section: tokens and events into lent words, of which those that are not filled stay as they were. A refusal leaves
 /// all of them 0.
 pub fn property_section<'a>(text: &'a [u8], tokens: &'a mut [u32], events: &'a mut [u32]) -> Result<Section<'a>, Refused> {
     let [number, place, count, taken, pushed] = calls::section(text, tokens, events);
-    match refused(number, place) {
-        Some(r) => Err(r),
-        None => Ok(Section { text, token_words: &tokens[..count], event_words: &events[..pushed], taken }),
-    }
+    refused(number, place)?;
+    Ok(Section { text, token_words: &tokens[..count], event_words: &events[..pushed], taken })
 }
 
 /// The text of a token by its number, from 0: a part of the text, or the empty part if there is no such word or the lengths up to it
@@ -120,13 +124,20 @@ pub fn token_text<'a>(text: &'a [u8], words: &[u32], number: usize) -> &'a [u8] 
     &text[start..start + length]
 }
 
-/// The tokens in words that are filled, one after another.
+/// The tokens in words that are filled, one after another, up to a word without a kind.
+///
+/// ```
+/// let mut words = [0; 4];
+/// let filled = gigboda::tokenize(b"A;", &mut words).unwrap();
+/// let kinds: Vec<String> = gigboda::tokens(filled).map(|token| token.kind.to_string()).collect();
+/// assert_eq!(kinds, ["IDENT", "SEMICOLON"]);
+/// ```
 pub fn tokens(words: &[u32]) -> impl Iterator<Item = Token> + '_ {
     let mut at = 0;
-    words.iter().map(move |word| {
+    words.iter().map_while(move |word| {
         let start = at;
         at += (word % 65_536) as usize;
-        Token { kind: (word / 65_536) as u8, range: start..at }
+        Kind::of(word / 65_536).map(|kind| Token { kind, range: start..at })
     })
 }
 
@@ -152,19 +163,29 @@ impl<'a> Section<'a> {
     }
 
     /// The tree that the events spell, in the text's order.
+    ///
+    /// ```
+    /// use gigboda::{Kind, Node};
+    /// let (mut tokens, mut events) = ([0; 32], [0; 32]);
+    /// let section = gigboda::property_section(b"properties A => 1 ms;", &mut tokens, &mut events).unwrap();
+    /// let value = section.nodes().find(|step| step.node == Node::Enter(Kind::INTEGER_VALUE)).unwrap();
+    /// assert_eq!((value.depth, value.token, value.place), (2, 6, 16));
+    /// ```
     pub fn nodes(&self) -> Nodes<'a> {
         Nodes::new(self.token_words, self.event_words)
     }
 
+    /// Line and column of a place in the text.
+    pub fn position(&self, place: usize) -> Position {
+        position(self.text, place)
+    }
+
     /// Whether there is no Error and every token is taken: exactly when the section grammar derives the text.
     pub fn is_clean(&self) -> bool {
-        let whole = self.tokens().filter(|t| !is_trivia(t.kind)).count();
-        whole == self.taken && !self.events().any(|e| matches!(e, Event::Error { .. }))
+        let whole = self.token_words.iter().filter(|word| !is_trivia(**word)).count();
+        let is_good = |word: &u32| !matches!(Event::of(*word), None | Some(Event::Error { .. }));
+        whole == self.taken && self.event_words.iter().all(is_good)
     }
-}
-
-pub fn is_trivia(kind: u8) -> bool {
-    kind == WHITESPACE || kind == COMMENT
 }
 
 #[cfg(test)]

@@ -1,16 +1,17 @@
-//! The tree of small texts, written with a bracket and the kind for each node and the text for each token.
+//! The tree of small texts, written with a bracket and the kind for each node, the text for each token, and a message's number; refusals,
+//! places and limits.
 use super::*;
 
 fn shape(text: &str) -> String {
     let (mut tokens, mut events) = (vec![0; 256], vec![0; 256]);
     let section = property_section(text.as_bytes(), &mut tokens, &mut events).expect("not refused");
     let mut out = String::new();
-    for node in section.nodes() {
-        match node {
+    for step in section.nodes() {
+        match step.node {
             Node::Enter(kind) => out += &format!("({kind} "),
-            Node::Token(_, range) => out += &format!("{} ", &text[range]),
+            Node::Token(_) => out += &format!("{} ", &text[step.place..step.end]),
             Node::Leave => out += ") ",
-            Node::Error(message) => out += &format!("!{message} "),
+            Node::Error(message) => out += &format!("!{} ", message.number()),
         }
     }
     out.trim_end().to_string()
@@ -19,42 +20,47 @@ fn shape(text: &str) -> String {
 /// The shape of one value.
 fn value(text: &str) -> String {
     let all = shape(&format!("properties A => {text};"));
-    let begin = "(169 properties (170 (171 A ) => ";
+    let begin = "(PROPERTY_SECTION properties (PROPERTY_ASSOCIATION (PROPERTY_REF A ) => ";
     let end = " ; ) )";
     all.strip_prefix(begin).and_then(|t| t.strip_suffix(end)).unwrap_or_else(|| panic!("{all}")).to_string()
 }
 
 #[test]
 fn a_section_without_associations() {
-    assert_eq!(shape("properties none;"), "(169 properties none ; )");
-    assert_eq!(shape("  properties -- nothing"), "(169 properties )");
+    assert_eq!(shape("properties none;"), "(PROPERTY_SECTION properties none ; )");
+    assert_eq!(shape("  properties -- nothing"), "(PROPERTY_SECTION properties )");
 }
 
 #[test]
 fn a_value_with_a_unit() {
-    assert_eq!(value("1 ms"), "(183 1 ms )");
+    assert_eq!(value("1 ms"), "(INTEGER_VALUE 1 ms )");
 }
 
 #[test]
 fn a_sign_is_below_the_sum() {
-    assert_eq!(value("-1 + 2"), "(192 (181 - (183 1 ) ) + (183 2 ) )");
+    assert_eq!(value("-1 + 2"), "(BINARY_EXPR (PROPERTY_EXPRESSION - (INTEGER_VALUE 1 ) ) + (INTEGER_VALUE 2 ) )");
 }
 
 #[test]
 fn products_and_sums_lean_left() {
-    assert_eq!(value("a * b * c"), "(192 (192 (181 a ) * (181 b ) ) * (181 c ) )");
-    assert_eq!(value("1 + 2 * 3 - 4"), "(192 (192 (183 1 ) + (192 (183 2 ) * (183 3 ) ) ) - (183 4 ) )");
+    let three = "(BINARY_EXPR (BINARY_EXPR (PROPERTY_EXPRESSION a ) * (PROPERTY_EXPRESSION b ) ) * (PROPERTY_EXPRESSION c ) )";
+    assert_eq!(value("a * b * c"), three);
+    let product = "(BINARY_EXPR (INTEGER_VALUE 2 ) * (INTEGER_VALUE 3 ) )";
+    let sum = format!("(BINARY_EXPR (BINARY_EXPR (INTEGER_VALUE 1 ) + {product} ) - (INTEGER_VALUE 4 ) )");
+    assert_eq!(value("1 + 2 * 3 - 4"), sum);
 }
 
 #[test]
 fn a_range_is_around_its_ends() {
-    assert_eq!(value("1 .. 2"), "(189 (183 1 ) .. (183 2 ) )");
-    assert_eq!(value("1 + 2 .. 3 delta 4"), "(189 (192 (183 1 ) + (183 2 ) ) .. (183 3 ) (190 delta (183 4 ) ) )");
+    assert_eq!(value("1 .. 2"), "(RANGE_VALUE (INTEGER_VALUE 1 ) .. (INTEGER_VALUE 2 ) )");
+    let sum = "(BINARY_EXPR (INTEGER_VALUE 1 ) + (INTEGER_VALUE 2 ) )";
+    let delta = "(DELTA_VALUE delta (INTEGER_VALUE 4 ) )";
+    assert_eq!(value("1 + 2 .. 3 delta 4"), format!("(RANGE_VALUE {sum} .. (INTEGER_VALUE 3 ) {delta} )"));
 }
 
 #[test]
 fn not_holds_the_range() {
-    assert_eq!(value("not 1 .. 2"), "(182 not (189 (183 1 ) .. (183 2 ) ) )");
+    assert_eq!(value("not 1 .. 2"), "(BOOLEAN_VALUE not (RANGE_VALUE (INTEGER_VALUE 1 ) .. (INTEGER_VALUE 2 ) ) )");
 }
 
 #[test]
@@ -62,15 +68,16 @@ fn forward_parents_are_as_01_says() {
     let (mut tokens, mut events) = ([0; 32], [0; 32]);
     let section = property_section(b"properties A => 1 .. 2;", &mut tokens, &mut events).expect("not refused");
     assert_eq!(section.events().count(), 19);
-    assert_eq!(section.events().nth(7), Some(Event::Start { kind: 183, forward_parent: Some(3) }));
+    assert_eq!(section.events().nth(7), Some(Event::Start { kind: Kind::INTEGER_VALUE, forward_parent: Some(3) }));
     assert!(section.is_clean());
 }
 
 #[test]
 fn errors_stand_where_they_are() {
     assert_eq!(value(""), "!5");
-    assert_eq!(value("0x1F"), "(2 !4 0x1F )");
-    assert_eq!(shape("properties A 1"), "(169 properties (170 (171 A ) !1 (183 1 ) !261 ) )");
+    assert_eq!(value("0x1F"), "(ERROR !4 0x1F )");
+    let association = "(PROPERTY_ASSOCIATION (PROPERTY_REF A ) !1 (INTEGER_VALUE 1 ) !261 )";
+    assert_eq!(shape("properties A 1"), format!("(PROPERTY_SECTION properties {association} )"));
 }
 
 #[test]
@@ -102,4 +109,64 @@ fn the_text_of_each_token() {
     assert_eq!(token_text(text, &filled, filled.len()), b"");
     assert_eq!(token_text(b"ab", &[1, 2], 1), b"");
     assert_eq!(words[filled.len()..], [9; 16][filled.len()..]);
+}
+
+/// The steps through an association with an empty node and no semicolon, with spaces around all.
+#[test]
+fn steps_say_where_they_are() {
+    let (mut tokens, mut events) = ([0; 32], [0; 32]);
+    let section = property_section(b" properties A =>1 applies to ", &mut tokens, &mut events).expect("not refused");
+    let at = |node| section.nodes().find(|step| step.node == node).map(|s| (s.depth, s.token, s.place, s.end));
+    assert_eq!(at(Node::Enter(Kind::PROPERTY_SECTION)), Some((0, 1, 1, 0)));
+    assert_eq!(at(Node::Token(Kind::PROPERTIES_KW)), Some((1, 1, 1, 11)));
+    assert_eq!(at(Node::Enter(Kind::PROPERTY_REF)), Some((2, 3, 12, 11)));
+    assert_eq!(at(Node::Leave), Some((2, 5, 14, 13)));
+    assert_eq!(at(Node::Enter(Kind::CONTAINMENT_PATH)), Some((3, 12, 29, 28)));
+    assert_eq!(at(Node::Error(Message::Missing(Kind::SEMICOLON))), Some((2, 12, 29, 28)));
+    assert_eq!(section.nodes().last().map(|s| (s.node, s.depth, s.end)), Some((Node::Leave, 0, 28)));
+}
+
+#[test]
+fn places_have_lines_and_columns() {
+    let text = "properties\n  A => \"ü\";\n\n".as_bytes();
+    let at = |place| position(text, place).to_string();
+    assert_eq!(at(0), "line 1, column 1");
+    assert_eq!(at(10), "line 1, column 11");
+    assert_eq!(at(11), "line 2, column 1");
+    assert_eq!(at(18), "line 2, column 8");
+    assert_eq!(at(22), "line 2, column 12");
+    assert_eq!(at(24), "line 3, column 1");
+    assert_eq!((at(25), at(99)), ("line 4, column 1".to_string(), "line 4, column 1".to_string()));
+    assert_eq!(position(b"", 0), Position { line: 1, column: 1 });
+}
+
+#[test]
+fn what_is_clean() {
+    let clean = |text: &[u8]| property_section(text, &mut [0; 32], &mut [0; 32]).expect("not refused").is_clean();
+    assert!(clean(b"properties A => 1 applies to ; -- all"));
+    assert!(!clean(b"properties A => ;"));
+    assert!(!clean(b"properties A => 1; }"));
+}
+
+/// What the limits' comments say.
+#[test]
+fn how_many_words_are_enough() {
+    let refused = |text: &str, lent_tokens, lent_events| {
+        let (mut tokens, mut events) = (vec![0; lent_tokens], vec![0; lent_events]);
+        property_section(text.as_bytes(), &mut tokens, &mut events).map(|section| section.event_words.len()).map_err(|r| r.refusal)
+    };
+    let dense = format!("properties{}", ";".repeat(MOST_BYTES - 10));
+    assert_eq!(refused(&dense, MOST_BYTES, MOST_EVENTS), Ok(3));
+    let long = format!("properties a=>{}", "1,".repeat(16_377));
+    assert_eq!(long.len(), MOST_BYTES);
+    assert_eq!(refused(&long, MOST_BYTES, MOST_EVENTS), Err(Refusal::NoEventWord));
+    assert_eq!(refused(&long, MOST_BYTES, 4 * MOST_EVENTS), Err(Refusal::NoEventWord));
+    let full = format!("properties a=>1 s,1 s,1 s{};", ",1".repeat(8_186));
+    assert_eq!(refused(&full, MOST_BYTES, MOST_EVENTS), Ok(MOST_EVENTS));
+}
+
+#[test]
+fn refusals_are_errors() {
+    let error: Box<dyn std::error::Error> = Box::new(tokenize(b"A;", &mut [0]).expect_err("refused"));
+    assert_eq!(error.to_string(), "more tokens than the tool has room for (refusal 3 at byte 1)");
 }

@@ -1,15 +1,13 @@
-//! The kept answers of the Rust, crates/replay/stdin and stdout, through the safe functions. tools/README.md says what a record is.
+//! The kept answers of the Rust, crates/replay/stdin and stdout, through the safe functions. tools/README.md says what is in a line.
+mod files;
+mod records;
+
 use gigboda::{property_section, tokenize, Refused};
+use records::{records, Record, TOKENS_ONLY};
 use std::fmt::Write;
 
-/// What every lent word holds before a call, and what stands in a record for the tokens-only call.
+/// What every lent word holds before a call.
 const OLD: u32 = 2_779_096_485;
-const TOKENS_ONLY: u32 = u32::MAX;
-
-fn kept(name: &str) -> Vec<u8> {
-    let path = format!("{}/../../crates/replay/{name}", env!("CARGO_MANIFEST_DIR"));
-    std::fs::read(&path).unwrap_or_else(|e| panic!("{path}: {e}"))
-}
 
 fn line(name: &str, words: &[u32]) -> String {
     let mut out = String::from(name);
@@ -29,18 +27,18 @@ fn zeros(words: &[u32]) -> u32 {
 }
 
 fn refused_lines(r: Refused, tokens: &[u32], events: &[u32]) -> String {
-    let answer = [r.refusal as u32, r.place as u32, 0, 0, 0];
+    let answer = [r.refusal.number() as u32, r.place as u32, 0, 0, 0];
     line("answer", &answer) + "tokens\nevents\n" + &line("rest", &[zeros(tokens), zeros(events)])
 }
 
-fn lines(text: &[u8], lent_tokens: u32, lent_events: u32) -> String {
-    let only = lent_events == TOKENS_ONLY;
-    let mut tokens = vec![OLD; lent_tokens as usize];
-    let mut events = vec![OLD; if only { 0 } else { lent_events as usize }];
+fn lines(record: &Record) -> String {
+    let only = record.events == TOKENS_ONLY;
+    let mut tokens = vec![OLD; record.tokens as usize];
+    let mut events = vec![OLD; if only { 0 } else { record.events as usize }];
     let counts = if only {
-        tokenize(text, &mut tokens).map(|t| (t.len(), 0, 0))
+        tokenize(record.text, &mut tokens).map(|t| (t.len(), 0, 0))
     } else {
-        property_section(text, &mut tokens, &mut events).map(|s| (s.token_words.len(), s.taken, s.event_words.len()))
+        property_section(record.text, &mut tokens, &mut events).map(|s| (s.token_words.len(), s.taken, s.event_words.len()))
     };
     match counts {
         Err(r) => refused_lines(r, &tokens, &events),
@@ -55,19 +53,14 @@ fn lines(text: &[u8], lent_tokens: u32, lent_events: u32) -> String {
 
 #[test]
 fn every_kept_answer() {
-    let (input, answers) = (kept("stdin"), kept("stdout"));
+    let (input, answers) = (files::bytes("crates/replay/stdin"), files::bytes("crates/replay/stdout"));
     let mut wanted = std::str::from_utf8(&answers).expect("lines").split_inclusive('\n');
-    let number = |at: usize| u32::from_le_bytes(input[at..at + 4].try_into().expect("four bytes"));
-    let (mut at, mut records) = (0, 0);
-    while at < input.len() {
-        let end = at + 12 + number(at) as usize;
-        let ours = lines(&input[at + 12..end], number(at + 4), number(at + 8));
+    let all = records(&input);
+    for (number, record) in all.iter().enumerate() {
         let theirs: String = wanted.by_ref().take(4).collect();
-        assert_eq!(ours, theirs, "record {records}");
-        at = end;
-        records += 1;
+        assert_eq!(lines(record), theirs, "record {number}");
     }
     assert_eq!(wanted.next(), None);
-    assert!(records >= 4_500, "only {records} records");
-    println!("{records} records answered as kept");
+    assert!(all.len() >= 4_500, "only {} records", all.len());
+    println!("{} records answered as kept", all.len());
 }

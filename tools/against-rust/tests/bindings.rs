@@ -1,5 +1,5 @@
 //! The safe functions and the tree of bindings/rust against the given Rust, on texts of all families (tools/bindings-test runs it).
-use gigboda::{property_section, tokenize, Event, Node, Refusal, Section};
+use gigboda::{property_section, tokenize, Event, Kind, Message, Node, Refusal, Section};
 use spar::event::Event as Theirs;
 use spar::syntax_kind::SyntaxKind;
 use texts::families::{self, Family, Maker};
@@ -43,40 +43,30 @@ impl Builder {
     }
 }
 
-/// The Rust's name of a kind that a message can miss.
-fn missing(number: u16) -> String {
-    use SyntaxKind::*;
-    let kinds = [APPLIES_KW, BINDING_KW, FAT_ARROW, L_PAREN, MODES_KW, R_BRACKET, R_PAREN, SEMICOLON, TO_KW];
-    let kind = kinds.iter().find(|kind| **kind as u16 == number);
-    format!("{:?}", kind.unwrap_or_else(|| panic!("no message misses kind {number}")))
-}
-
 /// A message in the Rust's words.
-fn message(number: u16) -> String {
-    let fixed = [
-        "expected `=>` or `+=>`",
-        "expected property name after `::`",
-        "expected property name",
-        "C-style radix literal is not valid AADL; use based notation, e.g. `16#…#` for hexadecimal",
-        "expected property expression",
-        "expected identifier after `::`",
-        "expected implementation name after `.`",
-        "expected `bus` or `processor` after `virtual`",
-    ];
-    match number {
-        256.. => format!("expected {}", missing(number - 256)),
-        _ => fixed[usize::from(number) - 1].to_string(),
-    }
+fn in_their_words(message: Message) -> String {
+    let fixed = match message {
+        Message::NoArrow => "expected `=>` or `+=>`",
+        Message::NoNameInSet => "expected property name after `::`",
+        Message::NoName => "expected property name",
+        Message::CStyle => "C-style radix literal is not valid AADL; use based notation, e.g. `16#…#` for hexadecimal",
+        Message::NoExpression => "expected property expression",
+        Message::NoIdentifier => "expected identifier after `::`",
+        Message::NoImplementation => "expected implementation name after `.`",
+        Message::VirtualAlone => "expected `bus` or `processor` after `virtual`",
+        Message::Missing(kind) => return format!("expected {kind}"),
+    };
+    fixed.to_string()
 }
 
 fn our_tree(section: &Section, text: &str) -> Vec<Tree> {
     let mut tree = Builder::new();
-    for node in section.nodes() {
-        match node {
-            Node::Enter(kind) => tree.enter(kind.into()),
-            Node::Token(kind, range) => tree.add(Tree::Token(kind.into(), text[range].to_string())),
+    for step in section.nodes() {
+        match step.node {
+            Node::Enter(kind) => tree.enter(kind as u16),
+            Node::Token(kind) => tree.add(Tree::Token(kind as u16, text[step.place..step.end].to_string())),
             Node::Leave => tree.leave(),
-            Node::Error(number) => tree.add(Tree::Error(message(number))),
+            Node::Error(message) => tree.add(Tree::Error(in_their_words(message))),
         }
     }
     tree.done()
@@ -118,11 +108,11 @@ fn their_tree(mut events: Vec<Theirs>, mut texts: impl Iterator<Item = String>) 
 fn same_event(ours: Event, theirs: &Theirs) -> bool {
     match (ours, theirs) {
         (Event::Start { kind, forward_parent }, Theirs::Start { kind: k, forward_parent: f }) => {
-            u16::from(kind) == *k as u16 && forward_parent.map(u32::from) == *f
+            kind as u16 == *k as u16 && forward_parent.map(u32::from) == *f
         }
-        (Event::Token { kind }, Theirs::Token { kind: k, n_raw_tokens }) => u16::from(kind) == *k as u16 && *n_raw_tokens == 1,
+        (Event::Token { kind }, Theirs::Token { kind: k, n_raw_tokens }) => kind as u16 == *k as u16 && *n_raw_tokens == 1,
         (Event::Finish, Theirs::Finish) => true,
-        (Event::Error { message: m }, Theirs::Error { msg }) => message(m) == *msg,
+        (Event::Error { message }, Theirs::Error { msg }) => in_their_words(message) == *msg,
         _ => false,
     }
 }
@@ -180,6 +170,18 @@ fn texts_of(mut families: Vec<Family>, seed: u64) -> Vec<String> {
 /// The Rust's recursion has no bound, so it gets a large stack.
 fn with_stack(run: impl FnOnce() + Send + 'static) {
     std::thread::Builder::new().stack_size(1 << 30).spawn(run).expect("a thread").join().expect("no difference");
+}
+
+#[test]
+fn kinds_are_the_rusts() {
+    let count = SyntaxKind::__LAST as u16;
+    for number in 0..count {
+        // Its numbers go from 0 to that last one without a gap.
+        let theirs: SyntaxKind = unsafe { std::mem::transmute(number) };
+        assert_eq!(Kind::of(number.into()).map(Kind::name), Some(format!("{theirs:?}").as_str()), "kind {number}");
+    }
+    assert_eq!(Kind::ALL.len(), usize::from(count));
+    println!("{count} kinds with the same names and numbers");
 }
 
 #[test]

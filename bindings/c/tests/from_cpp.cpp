@@ -1,0 +1,32 @@
+// gigboda.h from C++: the calls with strings and vectors, also empty ones, whose data() may be NULL. Ends with 0 if all is as it must be.
+#include "gigboda.h"
+#include <cstdio>
+#include <string>
+#include <vector>
+
+static gigboda_answer read(const std::string &text, std::vector<uint32_t> &tokens, std::vector<uint32_t> &events)
+{
+    return gigboda_read_section(text.data(), text.size(), tokens.data(), tokens.size(), events.data(), events.size());
+}
+
+int main()
+{
+    std::vector<uint32_t> tokens, events;
+    const std::string text = "properties A => 1 .. 2;";
+
+    if (read(text, tokens, events).number != GIGBODA_REFUSAL_NO_TOKEN_WORD)
+        return 1;
+    tokens.resize(GIGBODA_MOST_BYTES);
+    if (read(text, tokens, events).number != GIGBODA_REFUSAL_NO_EVENT_WORD)
+        return 2;
+    events.resize(GIGBODA_MOST_EVENTS);
+    gigboda_answer answer = read(text, tokens, events);
+    gigboda_walk walk = gigboda_walk_of(&answer, tokens.data(), events.data());
+    gigboda_step step;
+    std::string kinds;
+    while (gigboda_walk_next(&walk, &step))
+        if (step.sort == GIGBODA_STEP_ENTER)
+            kinds += std::string(gigboda_kind_name(step.kind)) + ' ';
+    std::puts(kinds.c_str());
+    return kinds == "PROPERTY_SECTION PROPERTY_ASSOCIATION PROPERTY_REF RANGE_VALUE INTEGER_VALUE INTEGER_VALUE " ? 0 : 3;
+}

@@ -1,0 +1,421 @@
+/* Tests of gigboda.h, each a function; a test's name says what holds. The last line counts them. */
+#include "gigboda.h"
+#include <stdio.h>
+#include <stdlib.h>
+#include <string.h>
+#include <time.h>
+
+static uint32_t tokens[GIGBODA_MOST_BYTES];
+static uint32_t events[2 * GIGBODA_MOST_EVENTS];
+static char text[GIGBODA_MOST_BYTES + 1];
+static char shown[1000];
+static int failures; /* of the test that runs */
+
+static void check(int holds, const char *what, int line)
+{
+    if (!holds) {
+        printf("line %d: not so: %s\n", line, what);
+        failures++;
+    }
+}
+#define CHECK(holds) check((holds), #holds, __LINE__)
+
+static void check_same(const char *got, const char *wanted, int line)
+{
+    if (strcmp(got, wanted) != 0) {
+        printf("line %d: wanted: %s\n    got: %s\n", line, wanted, got);
+        failures++;
+    }
+}
+#define CHECK_SAME(got, wanted) check_same((got), (wanted), __LINE__)
+
+static struct gigboda_answer read_enough(const char *section)
+{
+    return gigboda_read_section(section, strlen(section), tokens, GIGBODA_MOST_BYTES, events, GIGBODA_MOST_EVENTS);
+}
+
+/* An answer's numbers in a row. */
+static const char *numbers(struct gigboda_answer answer)
+{
+    sprintf(shown, "%zu %zu %zu %zu %zu", answer.number, answer.place, answer.tokens, answer.taken, answer.events);
+    return shown;
+}
+
+/* Writes a beginning, then a piece so many times, then an end; its length. */
+static size_t make_text(const char *begin, const char *piece, size_t times, const char *end)
+{
+    char *at = text + sprintf(text, "%s", begin);
+
+    for (; times > 0; times--)
+        at += sprintf(at, "%s", piece);
+    return (size_t)(at + sprintf(at, "%s", end) - text);
+}
+
+/* ---- Versions, kinds, words ---- */
+
+static void the_version_is_its_numbers(void)
+{
+    sprintf(shown, "%d.%d.%d", GIGBODA_VERSION_MAJOR, GIGBODA_VERSION_MINOR, GIGBODA_VERSION_PATCH);
+    CHECK_SAME(GIGBODA_VERSION, shown);
+}
+
+/* The numbers that document 01 names. */
+static void kinds_have_their_numbers_and_names(void)
+{
+    CHECK(GIGBODA_KIND_TOMBSTONE == 0 && GIGBODA_KIND_SEMICOLON == 5 && GIGBODA_KIND_FAT_ARROW == 18);
+    CHECK(GIGBODA_KIND_INTEGER_LIT == 30 && GIGBODA_KIND_IDENT == 33);
+    CHECK(GIGBODA_KIND_PACKAGE_KW == 34 && GIGBODA_KIND_FILE_KW == 114);
+    CHECK(GIGBODA_KIND_PROPERTY_SECTION == 169 && GIGBODA_KIND_INTEGER_VALUE == 183);
+    CHECK_SAME(gigboda_kind_name(0), "TOMBSTONE");
+    CHECK_SAME(gigboda_kind_name(GIGBODA_KIND_EOF), "EOF");
+    CHECK_SAME(gigboda_kind_name(169), "PROPERTY_SECTION");
+    CHECK_SAME(gigboda_kind_name(GIGBODA_KIND_COUNT - 1), "REFINED_TO");
+    CHECK_SAME(gigboda_kind_name(GIGBODA_KIND_COUNT), "(no kind)");
+}
+
+static void refusals_have_words(void)
+{
+    CHECK_SAME(gigboda_refusal_text(GIGBODA_REFUSAL_NONE), "not refused");
+    CHECK_SAME(gigboda_refusal_text(2), "the text is not UTF-8");
+    CHECK_SAME(gigboda_refusal_text(7), "(no refusal)");
+}
+
+static void messages_have_words(void)
+{
+    CHECK_SAME(gigboda_message_text(GIGBODA_MESSAGE_NO_EXPRESSION), "no value where one must stand");
+    CHECK_SAME(gigboda_message_text(GIGBODA_MESSAGE_MISSING + GIGBODA_KIND_SEMICOLON), "expected `;`");
+    CHECK_SAME(gigboda_message_text(GIGBODA_MESSAGE_MISSING + GIGBODA_KIND_TO_KW), "expected `to`");
+    CHECK_SAME(gigboda_message_text(GIGBODA_MESSAGE_MISSING + GIGBODA_KIND_PROPERTY_SECTION), "expected PROPERTY_SECTION");
+    CHECK_SAME(gigboda_message_text(0), "(no message)");
+    CHECK_SAME(gigboda_message_text(9), "(no message)");
+    CHECK_SAME(gigboda_message_text(GIGBODA_MESSAGE_MISSING + GIGBODA_KIND_COUNT), "(no message)");
+}
+
+/* ---- Calls ---- */
+
+static void the_calls_answer(void)
+{
+    const char *section = "properties\n  A => 1 ms;\n";
+    struct gigboda_part part;
+
+    CHECK_SAME(numbers(read_enough(section)), "0 0 11 6 14");
+    CHECK(tokens[0] == 3932170 && events[1] == 20709377);
+    part = gigboda_token_part(section, strlen(section), tokens, 11, 8);
+    CHECK(part.start == 20 && part.length == 2);
+    part = gigboda_token_part(section, strlen(section), tokens, 11, 11);
+    CHECK(part.length == 0);
+    CHECK_SAME(numbers(gigboda_read_tokens(section, strlen(section), tokens, 11)), "0 0 11 0 0");
+    CHECK_SAME(numbers(gigboda_read_tokens(section, strlen(section), tokens, 3)), "3 14 0 0 0");
+}
+
+static void a_refusal_leaves_zeros(void)
+{
+    tokens[0] = tokens[8] = events[0] = events[8] = 7;
+    CHECK_SAME(numbers(gigboda_read_section("properties \377", 12, tokens, 8, events, 8)), "2 11 0 0 0");
+    CHECK(tokens[0] == 0 && tokens[8] == 7 && events[0] == 0 && events[8] == 7);
+}
+
+/* As many of the answer's numbers are written as are lent. */
+static void the_librarys_functions_keep_to_what_is_lent(void)
+{
+    size_t answer[5] = {7, 7, 7, 7, 7};
+
+    gigboda_tokenize("a", 1, tokens, 1, answer, 3);
+    CHECK(answer[0] == 0 && answer[1] == 0 && answer[2] == 1 && answer[3] == 7 && answer[4] == 7);
+}
+
+static void null_with_length_0_is_allowed(void)
+{
+    struct gigboda_part part = gigboda_token_part(NULL, 0, NULL, 0, 0);
+    struct gigboda_answer refused = gigboda_read_section(NULL, 0, NULL, 0, NULL, 0);
+    struct gigboda_walk walk = gigboda_walk_of(&refused, NULL, NULL);
+    struct gigboda_step step;
+
+    CHECK(part.start == 0 && part.length == 0);
+    CHECK_SAME(numbers(refused), "4 0 0 0 0");
+    CHECK(!gigboda_is_clean(&refused, NULL, NULL) && !gigboda_walk_next(&walk, &step));
+    CHECK_SAME(numbers(gigboda_read_section("properties", 10, NULL, 0, NULL, 0)), "3 0 0 0 0");
+    CHECK_SAME(numbers(gigboda_read_section("properties", 10, tokens, 1, NULL, 0)), "5 0 0 0 0");
+    CHECK_SAME(numbers(gigboda_read_tokens(NULL, 0, NULL, 0)), "0 0 0 0 0");
+    CHECK_SAME(numbers(gigboda_read_tokens("a", 1, NULL, 0)), "3 0 0 0 0");
+    CHECK(gigboda_position_of(NULL, 0, 3).column == 1);
+}
+
+static void with_most_bytes_token_words_no_text_is_refused_3(void)
+{
+    size_t length = make_text("", ";", GIGBODA_MOST_BYTES, "");
+
+    CHECK(gigboda_read_tokens(text, length, tokens, GIGBODA_MOST_BYTES).tokens == GIGBODA_MOST_BYTES);
+    CHECK_SAME(numbers(gigboda_read_tokens(text, length, tokens, GIGBODA_MOST_BYTES - 1)), "3 32767 0 0 0");
+}
+
+/* 32,768 events are read and one more is refused 5, however many words are lent. */
+static void more_than_most_events_words_do_not_help(void)
+{
+    size_t length = make_text("properties a=>1 s,1 s,1 s", ",1", 8186, ";");
+
+    CHECK_SAME(numbers(gigboda_read_section(text, length, tokens, GIGBODA_MOST_BYTES, events, GIGBODA_MOST_EVENTS)),
+               "0 0 16388 16384 32768");
+    length = make_text("properties a=>1 s,1 s,1 s,1 s", ",1", 8185, ";");
+    CHECK(gigboda_read_section(text, length, tokens, GIGBODA_MOST_BYTES, events, 2 * GIGBODA_MOST_EVENTS).number == 5);
+    length = make_text("properties a=>", "1,", 16377, "");
+    CHECK(length == GIGBODA_MOST_BYTES);
+    CHECK(gigboda_read_section(text, length, tokens, GIGBODA_MOST_BYTES, events, GIGBODA_MOST_EVENTS).number == 5);
+    CHECK(gigboda_read_section(text, length, tokens, GIGBODA_MOST_BYTES, events, 2 * GIGBODA_MOST_EVENTS).number == 5);
+}
+
+/* ---- Places, clean answers ---- */
+
+static void check_position(const char *section, size_t place, size_t line, size_t column)
+{
+    struct gigboda_position at = gigboda_position_of(section, strlen(section), place);
+
+    sprintf(shown, "%zu is %zu:%zu", place, line, column);
+    check(at.line == line && at.column == column, shown, __LINE__);
+}
+
+static void places_have_lines_and_columns(void)
+{
+    const char *section = "properties\n  A => 1 ms;\n\n";
+
+    check_position(section, 0, 1, 1);
+    check_position(section, 10, 1, 11);
+    check_position(section, 11, 2, 1);
+    check_position(section, 13, 2, 3);
+    check_position(section, 24, 3, 1);
+    check_position(section, 25, 4, 1);
+    check_position(section, 99, 4, 1);
+    check_position("", 0, 1, 1);
+}
+
+static int is_clean(const char *section)
+{
+    struct gigboda_answer answer = read_enough(section);
+
+    return gigboda_is_clean(&answer, tokens, events);
+}
+
+static void what_is_clean(void)
+{
+    struct gigboda_answer only = gigboda_read_tokens("", 0, tokens, 0);
+
+    CHECK(is_clean("properties -- nothing"));
+    CHECK(is_clean("properties A => 1 applies to ;"));
+    CHECK(!is_clean("properties A => ;"));
+    CHECK(!is_clean("properties A => 1; }"));
+    CHECK(!is_clean("A => 1;"));
+    CHECK(!gigboda_is_clean(&only, tokens, events));
+}
+
+/* ---- The tree ---- */
+
+/* The tree of a text: a bracket and the kind for a node, the text for a token, a message's number. */
+static const char *shape(const char *section)
+{
+    struct gigboda_answer answer = read_enough(section);
+    struct gigboda_walk walk = gigboda_walk_of(&answer, tokens, events);
+    struct gigboda_step step;
+    char *at = shown;
+
+    *at = '\0';
+    while (gigboda_walk_next(&walk, &step)) {
+        if (step.sort == GIGBODA_STEP_ENTER)
+            at += sprintf(at, "(%s ", gigboda_kind_name(step.kind));
+        else if (step.sort == GIGBODA_STEP_TOKEN)
+            at += sprintf(at, "%.*s ", (int)(step.end - step.place), section + step.place);
+        else if (step.sort == GIGBODA_STEP_LEAVE)
+            at += sprintf(at, ") ");
+        else
+            at += sprintf(at, "!%u ", step.message);
+    }
+    return shown;
+}
+
+static void trees_are_walked(void)
+{
+    CHECK_SAME(shape("properties none;"), "(PROPERTY_SECTION properties none ; ) ");
+    CHECK_SAME(shape("properties A => 1 ms;"),
+               "(PROPERTY_SECTION properties (PROPERTY_ASSOCIATION (PROPERTY_REF A ) => (INTEGER_VALUE 1 ms ) ; ) ) ");
+    CHECK_SAME(shape("properties A 1"),
+               "(PROPERTY_SECTION properties (PROPERTY_ASSOCIATION (PROPERTY_REF A ) !1 (INTEGER_VALUE 1 ) !261 ) ) ");
+    CHECK_SAME(shape("A => 1;"), "");
+}
+
+static void forward_parents_are_followed(void)
+{
+    CHECK_SAME(shape("properties A => 1 + 2 * 3 - 4 .. 5;"),
+               "(PROPERTY_SECTION properties (PROPERTY_ASSOCIATION (PROPERTY_REF A ) => (RANGE_VALUE (BINARY_EXPR (BINARY_EXPR "
+               "(INTEGER_VALUE 1 ) + (BINARY_EXPR (INTEGER_VALUE 2 ) * (INTEGER_VALUE 3 ) ) ) - (INTEGER_VALUE 4 ) ) "
+               ".. (INTEGER_VALUE 5 ) ) ; ) ) ");
+    CHECK_SAME(shape("properties A => (1 + 2) * (3); B => a .. b;"),
+               "(PROPERTY_SECTION properties (PROPERTY_ASSOCIATION (PROPERTY_REF A ) => (BINARY_EXPR (LIST_VALUE ( (BINARY_EXPR "
+               "(INTEGER_VALUE 1 ) + (INTEGER_VALUE 2 ) ) ) ) * (LIST_VALUE ( (INTEGER_VALUE 3 ) ) ) ) ; ) "
+               "(PROPERTY_ASSOCIATION (PROPERTY_REF B ) => (RANGE_VALUE (PROPERTY_EXPRESSION a ) .. (PROPERTY_EXPRESSION b ) ) ; ) ) ");
+}
+
+/* A step's sort and numbers in a row. */
+static const char *in_a_row(const struct gigboda_step *step)
+{
+    sprintf(shown, "%c %u %u %zu %zu %zu %zu", "ETLX"[step->sort], step->kind, step->message, step->depth, step->token, step->place,
+            step->end);
+    return shown;
+}
+
+/* An association with an empty node, a missing semicolon, and spaces around all. */
+static void steps_say_where_they_are(void)
+{
+    static const char *const wanted[] = {
+        "E 169 0 0 1 1 0",    "T 60 0 1 1 1 11",   "E 170 0 1 3 12 11", "E 171 0 2 3 12 11",  "T 33 0 3 3 12 13",
+        "L 0 0 2 5 14 13",    "T 18 0 2 5 14 16",  "E 183 0 2 6 16 16", "T 30 0 3 6 16 17",   "L 0 0 2 8 18 17",
+        "E 172 0 2 8 18 17",  "T 84 0 3 8 18 25",  "T 85 0 3 10 26 28", "E 173 0 3 12 29 28", "L 0 0 3 12 29 28",
+        "L 0 0 2 12 29 28",   "X 0 261 2 12 29 28", "L 0 0 1 12 29 28", "L 0 0 0 12 29 28",
+    };
+    struct gigboda_answer answer = read_enough(" properties A =>1 applies to ");
+    struct gigboda_walk walk = gigboda_walk_of(&answer, tokens, events);
+    struct gigboda_step step;
+    size_t i;
+
+    for (i = 0; i < sizeof wanted / sizeof wanted[0] && gigboda_walk_next(&walk, &step); i++)
+        CHECK_SAME(in_a_row(&step), wanted[i]);
+    CHECK(i == sizeof wanted / sizeof wanted[0] && !gigboda_walk_next(&walk, &step));
+}
+
+/* Walks through the tree of what stands in `text`; the greatest depth. Every event gives one step, also a Start whose node opens early. */
+static size_t walk_text(size_t length)
+{
+    struct gigboda_answer answer = gigboda_read_section(text, length, tokens, GIGBODA_MOST_BYTES, events, GIGBODA_MOST_EVENTS);
+    struct gigboda_walk walk = gigboda_walk_of(&answer, tokens, events);
+    struct gigboda_step step = {GIGBODA_STEP_ENTER, 0, 0, 0, 0, 0, 0};
+    size_t steps = 0, most = 0;
+
+    CHECK(answer.number == 0);
+    for (; gigboda_walk_next(&walk, &step); steps++)
+        most = step.depth > most ? step.depth : most;
+    CHECK(steps == answer.events && step.sort == GIGBODA_STEP_LEAVE && step.depth == 0);
+    return most;
+}
+
+/* Walks ten times; the milliseconds that one walk takes, the call included. */
+static double time_walks(size_t length)
+{
+    clock_t begin = clock();
+    int i;
+
+    for (i = 0; i < 10; i++)
+        walk_text(length);
+    return (double)(clock() - begin) * 1000 / CLOCKS_PER_SEC / 10;
+}
+
+/* A chain must not take the time of its length squared: 5,458 sums, and 8,187 products without second operands. */
+static void long_chains_take_little_time(void)
+{
+    size_t length = make_text("properties a=>1", "+  1  ", 5458, ";");
+    double took = time_walks(length);
+
+    CHECK(walk_text(length) == 5458 + 3);
+    printf("a chain of 5,458 nodes in %zu bytes: %.2f ms\n", length, took);
+    CHECK(took < 20);
+    length = make_text("properties a=>1", "*", 8187, ";");
+    took = time_walks(length);
+    CHECK(walk_text(length) == 8187 + 3);
+    printf("a chain of 8,187 nodes in %zu bytes: %.2f ms\n", length, took);
+    CHECK(took < 20);
+}
+
+/* The longest ways back for the most nodes: 64 records in one another around a long sum, each with a second field and a factor. */
+static void deep_nests_take_little_time(void)
+{
+    char begin[500], end[1000];
+    double took;
+
+    make_text("properties a=>", "[a=>", 64, "1");
+    strcpy(begin, text);
+    make_text("", ";b=>1;]*1", 64, ";");
+    strcpy(end, text);
+    took = time_walks(make_text(begin, "+1", 5000, end));
+    printf("64 records in one another around 5,000 sums: %.2f ms\n", took);
+    CHECK(took < 200);
+}
+
+/* The next of a row of numbers without a pattern. */
+static uint32_t any_number(void)
+{
+    static uint32_t last = 1;
+
+    last = last * 1664525 + 1013904223;
+    return last >> 8;
+}
+
+/* Words of their own memory, just as many, each with a first field up to most_first and a last field up to 7. */
+static uint32_t *any_words(size_t count, uint32_t most_first, uint32_t unit)
+{
+    uint32_t *words = malloc(count * sizeof *words);
+    size_t i;
+
+    for (i = 0; i < count; i++)
+        words[i] = any_number() % (most_first + 1) * unit + any_number() % 8;
+    return words;
+}
+
+/* Whatever the words are, a walk ends and reads nothing outside them (the sanitizer looks). */
+static void any_words_are_walked_to_an_end(void)
+{
+    size_t round, steps, all = 0;
+
+    for (round = 0; round < 5000; round++) {
+        struct gigboda_answer answer = {0, 0, round % 7, 0, round % 40};
+        uint32_t *some_tokens = any_words(answer.tokens, 6, 65536);
+        uint32_t *some_events = any_words(answer.events, 4, 16777216);
+        struct gigboda_walk walk = gigboda_walk_of(&answer, some_tokens, some_events);
+        struct gigboda_step step;
+
+        for (steps = 0; steps <= 40 * 40 && gigboda_walk_next(&walk, &step); steps++)
+            CHECK(step.depth <= steps);
+        CHECK(steps <= 40 * 40);
+        all += steps;
+        free(some_tokens);
+        free(some_events);
+    }
+    CHECK(all > 5000);
+}
+
+/* ---- All of them ---- */
+
+#define TEST(name) {#name, name}
+static const struct {
+    const char *name;
+    void (*run)(void);
+} tests[] = {
+    TEST(the_version_is_its_numbers),
+    TEST(kinds_have_their_numbers_and_names),
+    TEST(refusals_have_words),
+    TEST(messages_have_words),
+    TEST(the_calls_answer),
+    TEST(a_refusal_leaves_zeros),
+    TEST(the_librarys_functions_keep_to_what_is_lent),
+    TEST(null_with_length_0_is_allowed),
+    TEST(with_most_bytes_token_words_no_text_is_refused_3),
+    TEST(more_than_most_events_words_do_not_help),
+    TEST(places_have_lines_and_columns),
+    TEST(what_is_clean),
+    TEST(trees_are_walked),
+    TEST(forward_parents_are_followed),
+    TEST(steps_say_where_they_are),
+    TEST(long_chains_take_little_time),
+    TEST(deep_nests_take_little_time),
+    TEST(any_words_are_walked_to_an_end),
+};
+
+int main(void)
+{
+    size_t count = sizeof tests / sizeof tests[0], failed = 0, i;
+
+    for (i = 0; i < count; i++) {
+        failures = 0;
+        tests[i].run();
+        failed += failures > 0;
+        printf("%s: %s\n", tests[i].name, failures > 0 ? "FAILED" : "ok");
+    }
+    printf("%zu passed, %zu failed\n", count - failed, failed);
+    return failed > 0;
+}
