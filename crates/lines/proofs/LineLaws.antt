@@ -2,7 +2,7 @@
 use Prim.Native.Nat.{ℕ, zero, suc, _/_, _%_, _^_, _≤_, _<_}
 use native.Mathlib.Omega.{arith}
 use mathlib.Core.Path.{_≡_, refl, sym, ap, _∙_}
-use mathlib.Core.Bool.{cond}
+use mathlib.Core.Bool.{Bool, true, false, cond}
 use mathlib.Core.List.{List, [], _∷_, _++_, append-assoc}
 use lib.ListN.{length, take, length-append}
 use lib.Dec.{eqb}
@@ -97,3 +97,17 @@ refusal-fits n p hn hp = simp length-append (omega (arith, decimal-length 9 n hn
 pub header-fits : length header ≤ line-room
 unfolding header
 header-fits = omega arith
+
+-- NOR IS ANY EMPTY -----------------------------------------------------------------------------------------------------
+
+pub line-some : (n w l c : ℕ) → 1 ≤ length (line-of n w l c)
+unfolding line-of
+line-some n w l c = simp length-append (omega arith)
+
+pub first-line-some : (a : Answer) → 1 ≤ length (first-line a)
+unfolding first-line header refusal-line
+first-line-some a = go (eqb (a .number) 0)
+  where
+    go : (t : Bool) → 1 ≤ length (cond t header (refusal-line (a .number) (a .place)))
+    go true = omega arith
+    go false = omega arith

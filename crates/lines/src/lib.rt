@@ -13,9 +13,6 @@ ghost use Rattle.aadl.specs.Listing.{decimal, letter};
 ghost use Rattle.writing.specs.Written.{Wrote};
 ghost use Rattle.lines.specs.Lines.{line-room, line-of, refusal-line, first-line};
 
-// The room that is left for a line: none is longer.
-pub const LINE: usize = 80;
-
 // The listing's first line, and the first field of a refusal with its comma.
 const HEADER: [u8; 34] = *b"event,class,kind,last,line,column\n";
 

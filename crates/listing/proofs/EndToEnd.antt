@@ -1,12 +1,12 @@
 -- The pieces of a listing, end to end, are 01's listing, for all bytes: of a call's answer and words (by demand 1: either all was read, or nothing is
 -- left but the refusal's line), and of a text of which only the first bytes were read, one more than may be. Assumes nothing.
-use Prim.Native.Nat.{ℕ, _≤_, _<_, min}
+use Prim.Native.Nat.{ℕ, suc, _-_, _≤_, _<_, min}
 use native.Mathlib.Omega.{arith}
 use mathlib.Core.Path.{_≡_, refl, sym, ap, _∙_}
 use mathlib.Core.Logic.{⊎-elim}
-use mathlib.Core.Bool.{Bool, true, false}
-use mathlib.Core.List.{List, _∷_, _++_, append-nil}
-use lib.ListN.{length, take, length-map}
+use mathlib.Core.Bool.{Bool, true, false, cond}
+use mathlib.Core.List.{List, [], _∷_, _++_, append-nil}
+use lib.ListN.{length, take, drop, length-append, length-map}
 use lib.Seq.{take-at, take-all, length-take-le}
 use lib.Dec.{leb}
 use borrow.Author.Tests.{ne-eqb, leb-true, leb-false}
@@ -18,18 +18,19 @@ use Rattle.aadl.specs.Symbols.{symbols}
 use Rattle.aadl.specs.Reading.{events, event-word}
 use Rattle.aadl.specs.Answers.{section-checks, answered, refused, section-answer, token-words, event-words}
 use Rattle.aadl.specs.Listing.{listing}
+use Rattle.aadl.proofs.Lists.{Each}
 use Rattle.aadl.proofs.AnswerLaws.{too-long}
 use Rattle.aadl.proofs.Checks.{section-numbered}
-use Rattle.parser.specs.Input.{input}
+use Rattle.parser.specs.Input.{Input, input}
 use Rattle.section.proofs.Demands.{Called, Filled, Refused, checks, first-numbered, every-answer-is-settled}
 use Rattle.listing.specs.declared.Listing.{Listing}
 use Rattle.listing.specs.declared.Cursor.{Cursor}
 use Rattle.lines.specs.Lines.{line-room, refusal-line, first-line}
-use Rattle.listing.specs.Cursors.{begin, lines-from}
-use Rattle.listing.specs.Pieces.{joined, left, Lists}
-use Rattle.lines.proofs.LineLaws.{listing-is, first-is-header, first-is-refusal}
+use Rattle.listing.specs.Cursors.{begin, step, lines-from}
+use Rattle.listing.specs.Pieces.{joined, piece, left, Lists}
+use Rattle.lines.proofs.LineLaws.{listing-is, first-is-header, first-is-refusal, line-some, first-line-some}
 use Rattle.listing.proofs.CursorLaws.{listing-of-answer}
-use Rattle.listing.proofs.PieceLaws.{pieces, pieces-are-all}
+use Rattle.listing.proofs.PieceLaws.{piece-more, pieces, pieces-are-all}
 
 -- OF A CALL ------------------------------------------------------------------------------------------------------------
 
@@ -84,6 +85,37 @@ first-bytes-listed text n h = go (leb (length text) n) refl
     go false e =
         let g = leb-false (length text) n e in
         long-listed (take n text) (omega (arith, length-take-le n text (omega arith))) ∙ sym (long-listed text (omega arith))
+
+-- WHERE IT ENDS --------------------------------------------------------------------------------------------------------
+
+-- no line is empty
+abbrev Some : List ℕ → Type 0
+Some l = 1 ≤ length l
+
+lines-some : (inp : Input) (n : ℕ) (ws : List ℕ) (c : Cursor) → Each Some (lines-from inp n ws c)
+unfolding lines-from
+lines-some inp n [] c = tt
+lines-some inp n (w ∷ ws) c = (line-some n w (c .spot .line) (c .spot .column), lines-some inp (suc n) ws (step inp w c))
+
+left-some : (text ts es : List ℕ) (l : Listing) → Each Some (left text ts es l)
+unfolding left
+left-some text ts es l =
+    let inp = input (take (l .bytes) text) (take (l .answer .tokens) ts) in
+    let ws = drop (l .event) (take (l .answer .events) es) in
+    go (l .begun) (lines-from inp (l .event) ws (l .cursor)) (lines-some inp (l .event) ws (l .cursor))
+  where
+    go : (t : Bool) (ls : List (List ℕ)) → Each Some ls → Each Some (cond t ls (first-line (l .answer) ∷ ls))
+    go true ls x = x
+    go false ls x = (first-line-some (l .answer), x)
+
+none-given : (room : ℕ) (ls : List (List ℕ)) → line-room ≤ room → Each Some ls → length (piece room ls) ≡ 0 → ls ≡ []
+none-given room [] h x e = refl
+none-given room (l ∷ ls) h x e =
+    absurd (omega (arith, x .0, e, ap length (piece-more room l ls h), length-append l (piece (room - length l) ls)))
+
+-- So a piece without a byte, with room for a line, is the end: nothing is left.
+pub empty-piece-is-the-end : (room : ℕ) (text ts es : List ℕ) (l : Listing) → line-room ≤ room → length (piece room (left text ts es l)) ≡ 0 → left text ts es l ≡ []
+empty-piece-is-the-end room text ts es l h e = none-given room (left text ts es l) h (left-some text ts es l) e
 
 -- END TO END -----------------------------------------------------------------------------------------------------------
 

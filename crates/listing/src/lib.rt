@@ -1,7 +1,6 @@
 // The listing of a text, whole: `begin` makes the section call, `next_piece` gives the next bytes, and the pieces end to end are 01's listing
 // (proofs/EndToEnd). A program reads, asks for pieces and writes them; all that lies between is here.
 use aadl::Answer;
-use lines::LINE;
 use lines::put_first;
 use lines::put_line;
 use parser::Parser;
@@ -26,6 +25,9 @@ pub const READ: usize = 32769;
 pub const TOKENS: usize = 16384;
 
 pub const EVENTS: usize = 8192;
+
+// The room that is left for a line: none is longer.
+const LINE: usize = 80;
 
 // Where a listing stands among the events: the parser behind the tokens that were taken, and the spot of the next one.
 pub struct Cursor {
