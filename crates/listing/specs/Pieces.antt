@@ -2,17 +2,18 @@
 -- the pieces are end to end is not. Assumes nothing.
 use Prim.Native.Nat.{ℕ, _+_, _-_, _≤_}
 use mathlib.Core.Path.{_≡_}
-use mathlib.Core.Bool.{true, cond}
+use mathlib.Core.Bool.{true, false, cond}
 use mathlib.Core.List.{List, [], _∷_, _++_}
 use lib.ListN.{length, take, drop}
 use lib.Dec.{leb}
+use Rattle.aadl.specs.declared.Answer.{Answer}
 use Rattle.aadl.specs.Limits.{base}
 use Rattle.aadl.specs.Listing.{listing}
 use Rattle.parser.specs.Input.{input}
 use Rattle.writing.specs.Written.{Wrote}
 use Rattle.listing.specs.declared.Listing.{Listing}
 use Rattle.lines.specs.Lines.{line-room, first-line}
-use Rattle.listing.specs.Cursors.{lines-from}
+use Rattle.listing.specs.Cursors.{begin, lines-from}
 
 -- Lines end to end.
 abbrev pub joined : List (List ℕ) → List ℕ
@@ -35,6 +36,10 @@ left text ts es l =
     let inp = input (take (l .bytes) text) (take (a .tokens) ts) in
     let lines = lines-from inp (l .event) (drop (l .event) (take (a .events) es)) (l .cursor) in
     cond (l .begun) lines (first-line a ∷ lines)
+
+-- A listing before its first line: of the first bytes, as many as were read, with the answer of the section call and the token words that it left.
+abbrev pub before : (text : List ℕ) → (bytes : ℕ) → (tokens : List ℕ) → Answer → Listing
+before text n ts a = record { bytes = n; answer = a; begun = false; event = 0; cursor = begin (input (take n text) (take (a .tokens) ts)) }
 
 -- A listing whose first line is given.
 abbrev pub given : Listing → Listing

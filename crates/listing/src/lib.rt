@@ -13,10 +13,12 @@ use spots::spot_at;
 use writing::least;
 ghost use Prim.Native.Nat.{_-_, _≤_};
 ghost use mathlib.Core.Path.{_≡_};
-ghost use lib.ListN.{length, drop};
+ghost use lib.ListN.{length, take, drop};
+ghost use Rattle.aadl.specs.Limits.{base};
+ghost use Rattle.aadl.specs.Answers.{section-answer, token-words, event-words, left-in};
 ghost use Rattle.parser.specs.Input.{input};
 ghost use Rattle.listing.specs.Cursors.{begin as begin-at, step, lines-from};
-ghost use Rattle.listing.specs.Pieces.{left, given, Gave, Lists};
+ghost use Rattle.listing.specs.Pieces.{left, before, given, Gave, Lists};
 
 // How many bytes of a text are read: one more than may be, so that a longer text is refused for that one.
 pub const READ: usize = 32769;
@@ -176,7 +178,7 @@ pub fn next_piece(
     more(text, tokens, events, l, out, at)
 }
 
-// Makes the section call on the first bytes of a text, as many as were read, with the words that are lent, and stands before the first line. For every
+// Makes the section call on the first bytes of a text, as many as were read, with the words that are lent, and stands before the first line: for every
 // text of which these are the bytes that have room, the lines that are left are its listing.
 pub fn begin(
     text: &[u8; READ],
@@ -184,7 +186,10 @@ pub fn begin(
     tokens: &mut [u32; TOKENS],
     events: &mut [u32; EVENTS],
 ) -> Listing
-    ensures { λ r. ⌜ Lists (now (text .entry)) bytes (now (tokens .exit)) (now (events .exit)) r ⌝ }
+    ensures stands { λ r. ⌜ r ≡ before (now (text .entry)) bytes (now (tokens .exit)) (section-answer base (take bytes (now (text .entry))) 16384 8192) ⌝ }
+    ensures token_words { λ r. ⌜ now (tokens .exit) ≡ left-in (section-answer base (take bytes (now (text .entry))) 16384 8192) (token-words (take bytes (now (text .entry)))) (now (tokens .entry)) ⌝ }
+    ensures event_words { λ r. ⌜ now (events .exit) ≡ left-in (section-answer base (take bytes (now (text .entry))) 16384 8192) (event-words base (take bytes (now (text .entry)))) (now (events .entry)) ⌝ }
+    ensures lists { λ r. ⌜ Lists (now (text .entry)) bytes (now (tokens .exit)) (now (events .exit)) r ⌝ }
 {
     let text: &[u8] = text;
     let n = least(bytes, READ);

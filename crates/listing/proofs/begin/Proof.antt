@@ -1,11 +1,13 @@
 -- What the section call answers and leaves has the listing's lines, of the first bytes and so of the whole text (EndToEnd). Assumes nothing.
 use native.Mathlib.Omega.{arith}
 use mathlib.Core.Path.{_≡_, sym, ap, _∙_}
+use mathlib.Core.Bool.{false}
 use mathlib.Core.List.{List}
 use Prim.Native.Nat.{ℕ}
 use lib.ListN.{length, take}
 use lib.Seq.{length-take-le}
 use Rattle.aadl.specs.Limits.{base}
+use Rattle.aadl.specs.Answers.{section-answer, token-words, event-words, left-in}
 use Rattle.aadl.specs.Listing.{listing}
 use Rattle.writing.proofs.LeastLaws.{take-least}
 use Rattle.parser.specs.Input.{input}
@@ -50,12 +52,23 @@ returns c =
     let n : length (x .events .now) ≡ 8192 = at-events .property-section-arg2 .given .0 .1 in
     let t = take-least _ (a .tokens) _ ts (at-least2 .least2 .ensures) (r .kept .1 .0 ∙ m) in
     let called : Called src (x .tokens .now) (x .events .now) a ts es = record { answer = r .ensures .0; token-words-left = r .ensures .1 .0; event-words-left = r .ensures .1 .1 .0 } in
-    let listed = call-listed called m n (k .result) (k .ensures ∙ ap (λ (l : List ℕ). begin (input src l)) t) in
-    record {
-      lists =
-          λ t e. (λ i. joined (answer-lines (sym s i) ts es a (k .result))) ∙ listed ∙ ap (listing base) (s ∙ e)
-          ∙ first-bytes-listed t (length (x .text .now)) (omega (arith, long));
-    }
+    let cursor-is = k .ensures ∙ ap (λ (l : List ℕ). begin (input src l)) t in
+    let listed = call-listed called m n (k .result) cursor-is in
+    let told = r .ensures .0 ∙ (λ i. section-answer base (s i) (m i) (n i)) in
+    let cursor-told = cursor-is ∙ (λ i. begin (input (s i) (take (told i .tokens) ts))) in (
+      (λ i. record { bytes = x .bytes; answer = told i; begun = false; event = 0; cursor = cursor-told i }),
+      (
+        r .ensures .1 .0 ∙ (λ i. left-in (section-answer base (s i) (m i) (n i)) (token-words (s i)) (x .tokens .now)),
+        (
+          r .ensures .1 .1 .0 ∙ (λ i. left-in (section-answer base (s i) (m i) (n i)) (event-words base (s i)) (x .events .now)),
+          record {
+            lists =
+                λ t e. (λ i. joined (answer-lines (sym s i) ts es a (k .result))) ∙ listed ∙ ap (listing base) (s ∙ e)
+                ∙ first-bytes-listed t (length (x .text .now)) (omega (arith, long));
+          },
+        ),
+      ),
+    )
 
 pub begin-spec : {M : Type 1} → statement M
 begin-spec = tie.close (tie.spec (λ c κs. search needs) count-src (λ c κs. search needs) (λ c κs. search needs) count-toks (λ c κs. search needs) returns)
