@@ -164,4 +164,8 @@ unreadable() {
 unwritable() {
     tells "$* > /dev/full" "standard output: No space left on device" sh -c '"$0" "$@" > /dev/full' "$@" < "$input"
     tells "$* >&-" "standard output: Bad file descriptor" sh -c '"$0" "$@" >&-' "$@" < "$input"
+    mkfifo "$to/pipe"
+    tells "$* on a pipe that nobody reads" "standard output: Broken pipe" \
+        sh -c 'trap "" PIPE; exec 3<> "$0" 4> "$0" 3>&-; "$@" >&4' "$to/pipe" "$@" < "$input"
+    rm "$to/pipe"
 }
