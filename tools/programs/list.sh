@@ -1,12 +1,12 @@
 # How tools/programs-test tests `list`: limits, texts, arguments, and what can't be read or written.
 usage="list: one FILE at most, and no option but --help"
 
-# 64 of an opener, behind a beginning, are read; the 65th is refused where it stands, so many bytes behind the begin of its text.
+# 64 of an opener, behind a beginning, are read, with so many lines; the 65th is refused where it stands, so many bytes behind the begin of its text.
 openers() {
     { printf '%s' "$1"; many 64 "$2"; } > "$text"
-    lists "64 of $2"
+    lists "64 of $2" "$3"
     printf '%s' "$2" >> "$text"
-    lists "65 of $2" "refused,6,$((${#1} + 64 * ${#2} + $3))"
+    lists "65 of $2" "refused,6,$((${#1} + 64 * ${#2} + $4))"
 }
 
 limits_of_bytes() {
@@ -38,12 +38,12 @@ test_limits() {
     lists "8,193 events" "refused,5,$(size "$text")"
     associations 900 0
     lists "9,003 events" refused,5,6563
-    openers 'properties A => ' '(' 0
-    openers 'properties A => ' '[b=>' 0
-    openers 'properties A => ' 'not ' 0
-    openers 'properties A => ' '+' 0
-    openers 'properties A => ' '- ' 0
-    openers 'properties A => classifier (' 'B(c=>' 1
+    openers 'properties A => ' '(' 268 0
+    openers 'properties A => ' '[b=>' 588 0
+    openers 'properties A => ' 'not ' 204 0
+    openers 'properties A => ' '+' 204 0
+    openers 'properties A => ' '- ' 204 0
+    openers 'properties A => classifier (' 'B(c=>' 720 1
     group "limits"
 }
 
