@@ -1,8 +1,12 @@
 /* Gigboda for C99 and C++: the tokens of an AADL text, the events of its property section, the tree that they spell, all of it in words.
  *
- * Link with target/staticlib/libcapi.a, which `rt staticlib capi` writes (x86-64). The library has three functions, and they are proved:
- * crates/capi/src/lib.rt says what each leaves, for every text, every number of lent words and whatever the words hold. All else is
- * inline in this header, which needs gigboda_kinds.h beside it, and is tested, not proved (bindings/c/test).
+ * Link with target/staticlib/libcapi.a, which `rt staticlib capi` writes (x86-64):
+ *
+ *     cc -std=c99 -I bindings/c FILE.c target/staticlib/libcapi.a
+ *
+ * The library has three functions, and they are proved: crates/capi/src/lib.rt says what each leaves, for every text, every number of lent
+ * words and whatever the words hold. All else is inline in this header, which needs gigboda_kinds.h beside it, and is tested, not proved
+ * (bindings/c/test).
  *
  * What is lent is a pointer and a number of elements. Any number is allowed, 0 too, and then any pointer, NULL too. Buffers that are lent
  * to one call must not overlap. Nothing is kept after a call, nothing is allocated, and two threads may call at the same time with buffers

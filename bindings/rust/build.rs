@@ -1,5 +1,5 @@
-//! Says where the static library is: in the folder that GIGBODA_LIB names, or where `rt staticlib capi` writes it. Tests find that folder's
-//! name in GIGBODA_LIB_FOLDER.
+//! Says where the static library is: in the folder that GIGBODA_LIB names, from this one on where the name is relative, or where
+//! `rt staticlib capi` writes it. Tests find that folder's name in GIGBODA_LIB_FOLDER.
 use std::env;
 use std::path::PathBuf;
 

@@ -1,5 +1,6 @@
 //! Gigboda from Rust: the tokens of an AADL text, the events of its property section, the tree that they spell, and all of it in words. The
-//! calls are proved; this crate hands them slices and takes their words apart, which is tested.
+//! calls are proved; this crate hands them slices and takes their words apart, which is tested. It has no dependencies but the static library
+//! that `rt staticlib capi` writes, where build.rs finds it; a Cargo.toml names it by its folder, `gigboda = { path = "bindings/rust" }`.
 //!
 //! ```
 //! use gigboda::Node;

@@ -54,7 +54,7 @@ impl Message {
 
 impl fmt::Display for Message {
     fn fmt(&self, f: &mut fmt::Formatter) -> fmt::Result {
-        f.write_str(match self {
+        f.pad(match self {
             Message::NoArrow => "no `=>` or `+=>` after a property's name",
             Message::NoNameInSet => "no property name after `::`",
             Message::NoName => "no property name",
@@ -63,7 +63,7 @@ impl fmt::Display for Message {
             Message::NoIdentifier => "no name after `::` in a classifier",
             Message::NoImplementation => "no implementation name after `.` in a classifier",
             Message::VirtualAlone => "`virtual` without `bus` or `processor` after it",
-            Message::Missing(kind) => return write!(f, "expected {}", kind.in_words()),
+            Message::Missing(kind) => return f.pad(&format!("expected {}", kind.in_words())),
         })
     }
 }

@@ -10,7 +10,7 @@ pub struct Position {
 
 impl fmt::Display for Position {
     fn fmt(&self, f: &mut fmt::Formatter) -> fmt::Result {
-        write!(f, "line {}, column {}", self.line, self.column)
+        f.pad(&format!("line {}, column {}", self.line, self.column))
     }
 }
 

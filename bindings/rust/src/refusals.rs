@@ -72,7 +72,7 @@ impl Refused {
 
 impl fmt::Display for Refused {
     fn fmt(&self, f: &mut fmt::Formatter) -> fmt::Result {
-        write!(f, "{} (refusal {} at byte {})", self.refusal, self.refusal.number(), self.place)
+        f.pad(&format!("{} (refusal {} at byte {})", self.refusal, self.refusal.number(), self.place))
     }
 }
 

@@ -170,3 +170,14 @@ fn refusals_are_errors() {
     let error: Box<dyn std::error::Error> = Box::new(tokenize(b"A;", &mut [0]).expect_err("refused"));
     assert_eq!(error.to_string(), "more tokens than the tool has room for (refusal 3 at byte 1)");
 }
+
+/// Words go into columns: each `Display` keeps to a width that is asked for.
+#[test]
+fn words_have_a_width() {
+    assert_eq!(format!("{:>18}|", position(b"", 0)), "  line 1, column 1|");
+    assert_eq!(format!("{:8}|{:>8}|", Kind::IDENT, Kind::EOF), "IDENT   |     EOF|");
+    assert_eq!(format!("{:18}|{:14}|", Message::NoName, Message::Missing(Kind::SEMICOLON)), "no property name  |expected `;`  |");
+    let refused = Refused { refusal: Refusal::TooDeep, place: 9 };
+    assert_eq!(format!("{refused:50}|"), "nested more than 64 deep (refusal 6 at byte 9)    |");
+    assert_eq!(format!("{:>26}", refused.refusal), "  nested more than 64 deep");
+}

@@ -12,23 +12,9 @@ pub struct Text {
 
 pub const SIZES: [usize; 3] = [1024, 8192, 32768];
 
-/// A gateway's section as people write them: names, numbers with units, lists, records, references, comments.
-const REALISTIC: &str = "
-  -- what the gateway may do, and where its parts run
-  Gateway_Properties::Role => Field_Gateway;
-  Gateway_Properties::Zones => (Press_Line, Paint_Line, Yard);
-  Dispatch_Protocol => Periodic applies to control.poll;
-  Period => 20 ms applies to control.poll;
-  Compute_Execution_Time => 1 ms .. 5 ms applies to control.poll, control.report;
-  Deadline => 15 ms in modes (nominal), 40 ms in modes (degraded);
-  Queue_Size => 16 applies to uplink;
-  Actual_Processor_Binding => (reference (board.cpu[0])) applies to control;
-  Actual_Memory_Binding => (reference (board.ram)) applies to control in binding (Boards::Gateway.basic);
-  Actual_Connection_Binding => (reference (field_bus), reference (plant_net)) applies to uplink;
-  Base_Address => 16#4000_3000# applies to board.modem;
-  Input_Rate => [ Value_Range => 1.0 .. 10.0; Rate_Unit => PerSecond; ] applies to sensors;
-  Source_Text => (\"poll.c\", \"report.c\") applies to control;
-";
+/// A gateway's section as people write them: names, numbers with units, lists, records, references, comments. Behind its first line,
+/// `properties`, each line is a whole piece.
+const REALISTIC: &str = include_str!("../../../samples/gateway.aadl");
 
 /// As many whole pieces as fit between a head and a tail.
 fn filled(bytes: usize, head: &str, mut piece: impl FnMut(usize) -> String, tail: &str) -> String {

@@ -12,9 +12,10 @@ use programs::{records_bytes, Pair, Program};
 use samples::sample;
 use std::sync::Arc;
 
+/// A user calls the scripts, which hand on what they are given.
 fn usage() -> ! {
-    eprintln!("compare run COUNT SEED tokens|sections ORACLE REPLAY");
-    eprintln!("compare sample TOKENS SECTIONS ORACLE STDIN STDOUT");
+    eprintln!("tools/compare/run COUNT SEED tokens|sections [FOLDER]");
+    eprintln!("tools/compare/sample TOKENS [SECTIONS [FOLDER]]");
     std::process::exit(2);
 }
 
