@@ -1,5 +1,5 @@
--- The cases of a call's answer, by its sign. Assumes nothing.
-use Prim.Native.Nat.{zero, suc}
+-- The cases of a call's answer, by its sign, and what is moved in each. Assumes nothing.
+use Prim.Native.Nat.{ℕ, zero, suc}
 use native.Mathlib.Omega.{arith}
 use mathlib.Core.Path.{_≡_, refl, sym, ap}
 use mathlib.Core.Bool.{Bool, true, false, cond}
@@ -8,7 +8,7 @@ use lib.Signed.{ltZ, leZ}
 use borrow.Author.Tests.{leb-false}
 use Rattle.predictive.proofs.Tests.{never}
 use Rattle.streams.specs.declared.Outcome.{Outcome}
-use Rattle.streams.specs.Outcomes.{outcome-of}
+use Rattle.streams.specs.Outcomes.{outcome-of, behind-read, behind-write}
 
 pub moved : (got : ℤ) (i : Bool) → ltZ (pos 0) got ≡ true → Outcome.Moved ≡ outcome-of got i
 unfolding outcome-of
@@ -26,3 +26,18 @@ pub below : (got : ℤ) (i t : Bool) → leZ (pos 0) got ≡ false → i ≡ t �
 unfolding outcome-of
 below (pos n) i t h e = absurd (omega (arith, leb-false 0 n h))
 below (negsuc n) i t h e = ap (λ (b : Bool). cond b Outcome.Again Outcome.Failed) (sym e)
+
+-- a call's outcome does not change how many bytes are moved
+pub read-count : (n : ℕ) (o : Outcome) → behind-read n o .count ≡ n
+unfolding behind-read
+read-count n Outcome.Moved = refl
+read-count n Outcome.Ended = refl
+read-count n Outcome.Again = refl
+read-count n Outcome.Failed = refl
+
+pub write-count : (n : ℕ) (o : Outcome) → behind-write n o .count ≡ n
+unfolding behind-write
+write-count n Outcome.Moved = refl
+write-count n Outcome.Ended = refl
+write-count n Outcome.Again = refl
+write-count n Outcome.Failed = refl

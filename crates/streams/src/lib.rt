@@ -3,7 +3,7 @@
 ghost use Prim.Native.Nat.{_≤_};
 ghost use mathlib.Core.Path.{_≡_};
 ghost use lib.ListN.{length};
-ghost use Rattle.streams.specs.Outcomes.{outcome-of};
+ghost use Rattle.streams.specs.Outcomes.{outcome-of, behind-read, behind-write};
 
 // What a call of `read` or `write` came to.
 pub enum Outcome {
@@ -34,100 +34,121 @@ fn interrupted() -> bool {
     os::errno() == libc::EINTR
 }
 
-// What was read: how many bytes, and whether it ended in a failure.
-pub struct Got {
+// Where a loop of calls stands: how many bytes are moved, whether another call is made, and whether the last one failed.
+pub struct Progress {
     pub count: usize,
+    pub on: bool,
     pub failed: bool,
 }
 
-// Where a loop of calls stands: how many bytes are moved, whether another call is made, and whether the last one failed.
-struct Moved {
-    count: usize,
-    on: bool,
-    failed: bool,
+// Behind a read: the input's end is no failure.
+fn after_read(count: usize, o: Outcome) -> Progress
+    ensures { λ r. ⌜ r ≡ behind-read count o ⌝ }
+{
+    match o {
+        Outcome::Moved => Progress {
+            count,
+            on: true,
+            failed: false,
+        },
+        Outcome::Again => Progress {
+            count,
+            on: true,
+            failed: false,
+        },
+        Outcome::Ended => Progress {
+            count,
+            on: false,
+            failed: false,
+        },
+        Outcome::Failed => Progress {
+            count,
+            on: false,
+            failed: true,
+        },
+    }
+}
+
+// Behind a write: one that took no byte has failed.
+fn after_write(count: usize, o: Outcome) -> Progress
+    ensures { λ r. ⌜ r ≡ behind-write count o ⌝ }
+{
+    match o {
+        Outcome::Moved => Progress {
+            count,
+            on: true,
+            failed: false,
+        },
+        Outcome::Again => Progress {
+            count,
+            on: true,
+            failed: false,
+        },
+        Outcome::Ended => Progress {
+            count,
+            on: false,
+            failed: true,
+        },
+        Outcome::Failed => Progress {
+            count,
+            on: false,
+            failed: true,
+        },
+    }
 }
 
 // One read behind the bytes that are read.
-fn read_once(fd: i32, buf: &mut [u8], n: usize) -> Moved
+fn read_once(fd: i32, buf: &mut [u8], n: usize) -> Progress
     requires { ⌜ n ≤ length (now buf) ⌝ }
     ensures { λ r. ⌜ r .count ≤ length (now (buf .entry)) ⌝ }
 {
     let got = libc::read(fd, &mut buf[n..]);
     let outcome = came_to(got, interrupted());
-    let count = n + io::count(got, &buf[n..]);
-    match outcome {
-        Outcome::Failed => Moved {
-            count,
-            on: false,
-            failed: true,
-        },
-        Outcome::Ended => Moved {
-            count,
-            on: false,
-            failed: false,
-        },
-        _ => Moved {
-            count,
-            on: true,
-            failed: false,
-        },
-    }
+    after_read(n + io::count(got, &buf[n..]), outcome)
 }
 
-// One write of the bytes that are not written yet. One that takes none has failed.
-fn write_once(fd: i32, buf: &[u8], n: usize) -> Moved
+// One write of the bytes that are not written yet.
+fn write_once(fd: i32, buf: &[u8], n: usize) -> Progress
     requires { ⌜ n ≤ length (now buf) ⌝ }
     ensures { λ r. ⌜ r .count ≤ length (now (buf .entry)) ⌝ }
 {
     let rest = &buf[n..];
     let got = libc::write(fd, rest);
     let outcome = came_to(got, interrupted());
-    let count = n + io::count(got, rest);
-    match outcome {
-        Outcome::Failed | Outcome::Ended => Moved {
-            count,
-            on: false,
-            failed: true,
-        },
-        _ => Moved {
-            count,
-            on: true,
-            failed: false,
-        },
-    }
+    after_write(n + io::count(got, rest), outcome)
 }
 
 // Reads until the bytes are full, the input ends or a read fails. A proved loop has to end, and nothing says that the input does: so it counts its
 // turns down, from a number that no run uses up.
-pub fn read_full(fd: i32, buf: &mut [u8]) -> Got
+pub fn read_full(fd: i32, buf: &mut [u8]) -> Progress
     ensures { λ r. ⌜ r .count ≤ length (now (buf .entry)) ⌝ }
 {
     let mut turns = u64::MAX;
-    let mut n = 0;
-    let mut on = true;
-    let mut failed = false;
-    while turns > 0 && on && n < buf.len() {
-        let r = read_once(fd, buf, n);
-        n = r.count;
-        on = r.on;
-        failed = r.failed;
+    let mut p = Progress {
+        count: 0,
+        on: true,
+        failed: false,
+    };
+    while turns > 0 && p.on && p.count < buf.len() {
+        p = read_once(fd, buf, p.count);
         turns -= 1;
     }
-    Got { count: n, failed }
+    p
 }
 
 // Writes the bytes, and says whether all of them went out.
 fn write_full(fd: i32, buf: &[u8]) -> bool {
     let mut turns = u64::MAX;
-    let mut n = 0;
-    let mut on = true;
-    while turns > 0 && on && n < buf.len() {
-        let r = write_once(fd, buf, n);
-        n = r.count;
-        on = r.on;
+    let mut p = Progress {
+        count: 0,
+        on: true,
+        failed: false,
+    };
+    while turns > 0 && p.on && p.count < buf.len() {
+        p = write_once(fd, buf, p.count);
         turns -= 1;
     }
-    n == buf.len()
+    p.count == buf.len()
 }
 
 // Writes the bytes to standard output, and says whether all of them went out; a failure is told on standard error.

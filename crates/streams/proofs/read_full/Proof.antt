@@ -7,10 +7,10 @@ use Rattle.streams.proofs.read_full.Statement.{statement}
 use Rattle.streams.proofs.read_full.Tie as tie
 
 abbrev Inv-loop : tie.InvT-loop
-Inv-loop fd buf₀ turns₀ n₀ on₀ failed₀ buf turns n on failed = (n ≤ length buf₀) × (length buf ≡ length buf₀)
+Inv-loop fd buf₀ turns₀ p₀ buf turns p = (p .count ≤ length buf₀) × (length buf ≡ length buf₀)
 
 abbrev μ-loop : tie.MeasureT-loop
-μ-loop fd buf₀ turns₀ n₀ on₀ failed₀ buf turns n on failed = turns
+μ-loop fd buf₀ turns₀ p₀ buf turns p = turns
 
 pub read-full-spec : {M : Type 1} → statement M
 read-full-spec =

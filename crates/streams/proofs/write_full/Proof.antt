@@ -6,10 +6,10 @@ use Rattle.streams.proofs.write_full.Statement.{statement}
 use Rattle.streams.proofs.write_full.Tie as tie
 
 abbrev Inv-loop : tie.InvT-loop
-Inv-loop fd buf turns₀ n₀ on₀ turns n on = n ≤ length buf
+Inv-loop fd buf turns₀ p₀ turns p = p .count ≤ length buf
 
 abbrev μ-loop : tie.MeasureT-loop
-μ-loop fd buf turns₀ n₀ on₀ turns n on = turns
+μ-loop fd buf turns₀ p₀ turns p = turns
 
 pub write-full-spec : {M : Type 1} → statement M
 write-full-spec =

@@ -1,0 +1,32 @@
+-- No more bytes are moved than there are (OutcomeLaws). Assumes nothing.
+use Prim.Native.Nat.{_+_}
+use native.Mathlib.Omega.{arith}
+use mathlib.Core.Path.{ap}
+use Rattle.streams.specs.declared.Progress.{Progress}
+use Rattle.streams.proofs.OutcomeLaws.{write-count}
+use borrow.Author.Needs.{needs}
+use Rattle.streams.proofs.write_once.Statement.{statement}
+use Rattle.streams.proofs.write_once.Tie as tie
+
+returns : tie.Need-returns
+returns c =
+    let at-count = c .before in
+    let at-came = at-count .before in
+    let a = at-came .before .before .before .before .before .args in
+    let told = ap (λ (p : Progress). p .count) (c .after-write .ensures) in
+    omega (arith, told, write-count (a .n + at-count .count .result) (at-came .came-to .result), at-count .count .ensures .0 .0)
+
+pub write-once-spec : {M : Type 1} → statement M
+write-once-spec =
+    tie.close
+    (tie.spec
+    (λ c. search needs)
+    (λ c. search needs)
+    (λ c. search needs)
+    (λ c κs. search needs)
+    (λ c κs. search needs)
+    (λ c κs. search needs)
+    (λ c κs. search needs)
+    (λ c. search needs)
+    (λ c κs. search needs)
+    returns)
