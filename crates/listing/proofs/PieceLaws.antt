@@ -1,6 +1,6 @@
 -- Pieces of lines: what a buffer takes, line by line; one piece and the lines behind it are all of them; and from piece to piece fewer lines are
 -- left, until none is. Assumes nothing.
-use Prim.Native.Nat.{ℕ, zero, suc, _+_, _-_, _≤_, _<_, min}
+use Prim.Native.Nat.{ℕ, zero, suc, _+_, _-_, _≤_, _<_}
 use native.Mathlib.Omega.{arith}
 use mathlib.Core.Path.{_≡_, refl, sym, ap, subst, _∙_}
 use mathlib.Core.Bool.{Bool, true, false, cond}
@@ -8,7 +8,7 @@ use mathlib.Core.List.{List, [], _∷_, _++_, append-assoc}
 use lib.ListN.{length, getD, take, drop, length-append, drop-of-length-le}
 use lib.Seq.{sets, drop-cons}
 use lib.Dec.{leb}
-use borrow.Author.Tests.{le-leb, lt-leb, leb-true}
+use borrow.Author.Tests.{le-leb, lt-leb}
 use Rattle.parser.specs.Input.{Input}
 use Rattle.writing.specs.Written.{Wrote}
 use Rattle.writing.proofs.WriteLaws.{sets-append, wrote-long, wrote-none, wrote-then, wrote-same, wrote-front}

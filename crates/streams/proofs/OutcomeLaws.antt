@@ -8,7 +8,7 @@ use lib.Signed.{ltZ, leZ}
 use borrow.Author.Tests.{leb-false}
 use Rattle.predictive.proofs.Tests.{never}
 use Rattle.streams.specs.declared.Outcome.{Outcome}
-use Rattle.streams.specs.Outcomes.{outcome-of, behind-read, behind-write}
+use Rattle.streams.specs.Outcomes.{outcome-of, behind}
 
 pub moved : (got : ℤ) (i : Bool) → ltZ (pos 0) got ≡ true → Outcome.Moved ≡ outcome-of got i
 unfolding outcome-of
@@ -28,16 +28,9 @@ below (pos n) i t h e = absurd (omega (arith, leb-false 0 n h))
 below (negsuc n) i t h e = ap (λ (b : Bool). cond b Outcome.Again Outcome.Failed) (sym e)
 
 -- a call's outcome does not change how many bytes are moved
-pub read-count : (n : ℕ) (o : Outcome) → behind-read n o .count ≡ n
-unfolding behind-read
-read-count n Outcome.Moved = refl
-read-count n Outcome.Ended = refl
-read-count n Outcome.Again = refl
-read-count n Outcome.Failed = refl
-
-pub write-count : (n : ℕ) (o : Outcome) → behind-write n o .count ≡ n
-unfolding behind-write
-write-count n Outcome.Moved = refl
-write-count n Outcome.Ended = refl
-write-count n Outcome.Again = refl
-write-count n Outcome.Failed = refl
+pub behind-count : (n : ℕ) (o : Outcome) (e : Bool) → behind n o e .count ≡ n
+unfolding behind
+behind-count n Outcome.Moved e = refl
+behind-count n Outcome.Ended e = refl
+behind-count n Outcome.Again e = refl
+behind-count n Outcome.Failed e = refl

@@ -12,16 +12,10 @@ outcome-of (pos zero) i = Outcome.Ended
 outcome-of (pos (suc n)) i = Outcome.Moved
 outcome-of (negsuc n) i = cond i Outcome.Again Outcome.Failed
 
--- How a loop of reads, or of writes, stands behind a call: bytes moved so far, whether it goes on, whether it failed. The end of an input is no failure; a write
--- that took no byte is one.
-unfoldable pub behind-read : (count : ℕ) → Outcome → Progress
-behind-read n Outcome.Moved = record { count = n; on = true; failed = false }
-behind-read n Outcome.Again = record { count = n; on = true; failed = false }
-behind-read n Outcome.Ended = record { count = n; on = false; failed = false }
-behind-read n Outcome.Failed = record { count = n; on = false; failed = true }
-
-unfoldable pub behind-write : (count : ℕ) → Outcome → Progress
-behind-write n Outcome.Moved = record { count = n; on = true; failed = false }
-behind-write n Outcome.Again = record { count = n; on = true; failed = false }
-behind-write n Outcome.Ended = record { count = n; on = false; failed = true }
-behind-write n Outcome.Failed = record { count = n; on = false; failed = true }
+-- How a loop of calls stands behind one: bytes moved so far, whether it goes on, whether it failed. A call that moved no byte may be fatal or not:
+-- a read has then come to the input's end, a write has failed.
+unfoldable pub behind : (count : ℕ) → Outcome → (fatal : Bool) → Progress
+behind n Outcome.Moved e = record { count = n; on = true; failed = false }
+behind n Outcome.Again e = record { count = n; on = true; failed = false }
+behind n Outcome.Ended e = record { count = n; on = false; failed = e }
+behind n Outcome.Failed e = record { count = n; on = false; failed = true }

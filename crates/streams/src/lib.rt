@@ -3,7 +3,7 @@
 ghost use Prim.Native.Nat.{_≤_};
 ghost use mathlib.Core.Path.{_≡_};
 ghost use lib.ListN.{length};
-ghost use Rattle.streams.specs.Outcomes.{outcome-of, behind-read, behind-write};
+ghost use Rattle.streams.specs.Outcomes.{outcome-of, behind};
 
 // What a call of `read` or `write` came to.
 pub enum Outcome {
@@ -41,9 +41,9 @@ pub struct Progress {
     pub failed: bool,
 }
 
-// Behind a read: the input's end is no failure.
-fn after_read(count: usize, o: Outcome) -> Progress
-    ensures { λ r. ⌜ r ≡ behind-read count o ⌝ }
+// How a loop stands behind a call. One that moved no byte is fatal to a loop of writes; one of reads has come to the input's end.
+fn after(count: usize, o: Outcome, fatal: bool) -> Progress
+    ensures { λ r. ⌜ r ≡ behind count o fatal ⌝ }
 {
     match o {
         Outcome::Moved => Progress {
@@ -59,35 +59,7 @@ fn after_read(count: usize, o: Outcome) -> Progress
         Outcome::Ended => Progress {
             count,
             on: false,
-            failed: false,
-        },
-        Outcome::Failed => Progress {
-            count,
-            on: false,
-            failed: true,
-        },
-    }
-}
-
-// Behind a write: one that took no byte has failed.
-fn after_write(count: usize, o: Outcome) -> Progress
-    ensures { λ r. ⌜ r ≡ behind-write count o ⌝ }
-{
-    match o {
-        Outcome::Moved => Progress {
-            count,
-            on: true,
-            failed: false,
-        },
-        Outcome::Again => Progress {
-            count,
-            on: true,
-            failed: false,
-        },
-        Outcome::Ended => Progress {
-            count,
-            on: false,
-            failed: true,
+            failed: fatal,
         },
         Outcome::Failed => Progress {
             count,
@@ -104,7 +76,7 @@ fn read_once(fd: i32, buf: &mut [u8], n: usize) -> Progress
 {
     let got = libc::read(fd, &mut buf[n..]);
     let outcome = came_to(got, interrupted());
-    after_read(n + io::count(got, &buf[n..]), outcome)
+    after(n + io::count(got, &buf[n..]), outcome, false)
 }
 
 // One write of the bytes that are not written yet.
@@ -115,7 +87,7 @@ fn write_once(fd: i32, buf: &[u8], n: usize) -> Progress
     let rest = &buf[n..];
     let got = libc::write(fd, rest);
     let outcome = came_to(got, interrupted());
-    after_write(n + io::count(got, rest), outcome)
+    after(n + io::count(got, rest), outcome, true)
 }
 
 // Reads until the bytes are full, the input ends or a read fails. A proved loop has to end, and nothing says that the input does: so it counts its

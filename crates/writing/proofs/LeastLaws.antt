@@ -1,5 +1,6 @@
--- Parts of a list, cut at some number or at the list's length, whichever is less. Assumes nothing.
-use Prim.Native.Nat.{ℕ, min}
+-- What does not change past a length is the same at a number and at that number or the length, whichever is less: parts of a list, and stores into one.
+-- Assumes nothing.
+use Prim.Native.Nat.{ℕ, _≤_, min}
 use native.Mathlib.Omega.{arith}
 use mathlib.Core.Path.{_≡_, refl, sym, ap, _∙_}
 use mathlib.Core.Bool.{Bool, true, false}
@@ -9,27 +10,23 @@ use lib.Seq.{take-all}
 use lib.Dec.{leb}
 use borrow.Author.Tests.{leb-true, leb-false}
 
-pub take-within : (n : ℕ) (l : List ℕ) → take (min n (length l)) l ≡ take n l
-take-within n l = go (leb n (length l)) refl
+pub at-least : (f : ℕ → List ℕ) (m : ℕ) → ((i : ℕ) → m ≤ i → f i ≡ f m) → (n : ℕ) → f (min n m) ≡ f n
+at-least f m past n = go (leb n m) refl
   where
-    go : (t : Bool) → leb n (length l) ≡ t → take (min n (length l)) l ≡ take n l
+    go : (t : Bool) → leb n m ≡ t → f (min n m) ≡ f n
     go true e =
-        let m : min n (length l) ≡ n = omega (arith, leb-true n (length l) e) in
-        ap (λ (k : ℕ). take k l) m
+        let q : min n m ≡ n = omega (arith, leb-true n m e) in
+        ap f q
     go false e =
-        let h = leb-false n (length l) e in
-        take-all (min n (length l)) l (omega arith) ∙ sym (take-all n l (omega arith))
+        let h = leb-false n m e in
+        past (min n m) (omega arith) ∙ sym (past n (omega arith))
+
+pub take-within : (n : ℕ) (l : List ℕ) → take (min n (length l)) l ≡ take n l
+take-within n l = at-least (λ (i : ℕ). take i l) (length l) (λ i h. take-all i l h ∙ sym (take-all (length l) l (omega arith))) n
 
 pub drop-within : (n : ℕ) (l : List ℕ) → drop (min n (length l)) l ≡ drop n l
-drop-within n l = go (leb n (length l)) refl
-  where
-    go : (t : Bool) → leb n (length l) ≡ t → drop (min n (length l)) l ≡ drop n l
-    go true e =
-        let m : min n (length l) ≡ n = omega (arith, leb-true n (length l) e) in
-        ap (λ (k : ℕ). drop k l) m
-    go false e =
-        let h = leb-false n (length l) e in
-        drop-of-length-le l {i = min n (length l)} (omega arith) ∙ sym (drop-of-length-le l {i = n} (omega arith))
+drop-within n l =
+    at-least (λ (i : ℕ). drop i l) (length l) (λ i h. drop-of-length-le l {i = i} h ∙ sym (drop-of-length-le l {i = length l} (omega arith))) n
 
 -- the same as `least` says it
 pub take-least : (n k m : ℕ) (l : List ℕ) → n ≡ min k m → length l ≡ m → take n l ≡ take k l

@@ -1,15 +1,12 @@
 -- Bytes written one after the other are written at once, whether or not all of them have room. Assumes nothing.
 use Prim.Native.Nat.{ℕ, suc, _+_, _≤_, _<_, min}
-use native.Mathlib.Nat.{zero-add}
 use native.Mathlib.Omega.{arith}
 use mathlib.Core.Path.{_≡_, refl, sym, ap, subst, _∙_}
-use mathlib.Core.Bool.{Bool, true, false}
 use mathlib.Core.List.{List, [], _∷_, _++_}
 use lib.ListN.{length, take, drop, getD, set, length-append}
 use lib.Seq.{sets, sets-eq, length-sets, set-out, take-suc, take-at}
-use lib.Dec.{leb}
-use borrow.Author.Tests.{leb-true, leb-false}
 use Rattle.writing.specs.Written.{Wrote}
+use Rattle.writing.proofs.LeastLaws.{at-least}
 
 -- STORES ---------------------------------------------------------------------------------------------------------------
 
@@ -24,15 +21,7 @@ sets-out l i (v ∷ vs) h = ap (λ (k : List ℕ). sets k (suc i) vs) (set-out l
 
 -- so it does not matter how far behind it they would begin
 pub sets-from : (l : List ℕ) (i : ℕ) (vs : List ℕ) → sets l (min i (length l)) vs ≡ sets l i vs
-sets-from l i vs = go (leb i (length l)) refl
-  where
-    go : (t : Bool) → leb i (length l) ≡ t → sets l (min i (length l)) vs ≡ sets l i vs
-    go true e =
-        let m : min i (length l) ≡ i = omega (arith, leb-true i (length l) e) in
-        ap (λ (k : ℕ). sets l k vs) m
-    go false e =
-        let h = leb-false i (length l) e in
-        sets-out l (min i (length l)) vs (omega arith) ∙ sym (sets-out l i vs (omega arith))
+sets-from l i vs = at-least (λ (k : ℕ). sets l k vs) (length l) (λ k h. sets-out l k vs h ∙ sym (sets-out l (length l) vs (omega arith))) i
 
 -- BYTES AFTER BYTES ----------------------------------------------------------------------------------------------------
 

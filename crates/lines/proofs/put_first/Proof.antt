@@ -1,5 +1,5 @@
 -- The header's letters are the definition, by computation; or it is the refusal's line. Assumes nothing.
-use mathlib.Core.Path.{sym, ap, _∙_}
+use mathlib.Core.Path.{sym, ap}
 use native.Mathlib.Omega.{arith}
 use lib.ListN.{length}
 use Rattle.writing.proofs.WriteLaws.{wrote-same}

@@ -2,8 +2,9 @@
 use Prim.Native.Nat.{_+_}
 use native.Mathlib.Omega.{arith}
 use mathlib.Core.Path.{ap}
+use mathlib.Core.Bool.{true}
 use Rattle.streams.specs.declared.Progress.{Progress}
-use Rattle.streams.proofs.OutcomeLaws.{write-count}
+use Rattle.streams.proofs.OutcomeLaws.{behind-count}
 use borrow.Author.Needs.{needs}
 use Rattle.streams.proofs.write_once.Statement.{statement}
 use Rattle.streams.proofs.write_once.Tie as tie
@@ -13,8 +14,8 @@ returns c =
     let at-count = c .before in
     let at-came = at-count .before in
     let a = at-came .before .before .before .before .before .args in
-    let told = ap (λ (p : Progress). p .count) (c .after-write .ensures) in
-    omega (arith, told, write-count (a .n + at-count .count .result) (at-came .came-to .result), at-count .count .ensures .0 .0)
+    let told = ap (λ (p : Progress). p .count) (c .after .ensures) in
+    omega (arith, told, behind-count (a .n + at-count .count .result) (at-came .came-to .result) true, at-count .count .ensures .0 .0)
 
 pub write-once-spec : {M : Type 1} → statement M
 write-once-spec =
