@@ -1,5 +1,5 @@
--- Laws of tests: choices by them, and a test made at every number below a bound, which a closed computation decides. Each is proved
--- by cases on the test or by induction on the bound. Assumes nothing.
+-- Laws of tests: choices by them, two choices by one test, and a test made at every number below a bound, which a closed computation
+-- decides. Each is proved by cases on the test or by induction on the bound. Assumes nothing.
 use Prim.Native.Nat.{ℕ, zero, suc, _<_}
 use native.Mathlib.Nat.{le-of-suc-le-suc, not-suc-le-zero, eq-or-lt-of-le}
 use mathlib.Core.Path.{_≡_, refl, sym, subst}
@@ -11,6 +11,27 @@ use Rattle.predictive.proofs.Tests.{and-l, and-r}
 pub cond-has {ℓ} : {A : Type ℓ} (P : A → Type 0) (t : Bool) (a b : A) → (t ≡ true → P a) → (t ≡ false → P b) → P (cond t a b)
 cond-has P true a b f g = f refl
 cond-has P false a b f g = g refl
+
+pub false-unless : (t : Bool) → (t ≡ true → ⊥) → t ≡ false
+false-unless true h = absurd (h refl)
+false-unless false h = refl
+
+module _ {A : Type 0} (Q : A → Type 0) where
+  -- What is known of a choice is known of the case that its test takes.
+  pub cond-first : (t : Bool) (a b : A) → Q (cond t a b) → t ≡ true → Q a
+  cond-first t a b q e = rw e at q
+
+  pub cond-second : (t : Bool) (a b : A) → Q (cond t a b) → t ≡ false → Q b
+  cond-second t a b q e = rw e at q
+
+  -- Two choices by the same test are equal if their cases are, where the case taken has what is known of the first choice.
+  pub cond-same : (t t′ : Bool) → t′ ≡ t → (a b a′ b′ : A) → (t ≡ true → Q a → a′ ≡ a) → (t ≡ false → Q b → b′ ≡ b) → Q (cond t a b) →
+      cond t′ a′ b′ ≡ cond t a b
+  cond-same t t′ e a b a′ b′ f g q = rw e (by-case t (λ k. f k) (λ k. g k) q)
+    where
+      by-case : (s : Bool) → (s ≡ true → Q a → a′ ≡ a) → (s ≡ false → Q b → b′ ≡ b) → Q (cond s a b) → cond s a′ b′ ≡ cond s a b
+      by-case true f g q = f refl q
+      by-case false f g q = g refl q
 
 -- f at each number below n
 abbrev pub below : (ℕ → Bool) → ℕ → Bool

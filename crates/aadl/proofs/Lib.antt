@@ -1,6 +1,7 @@
 pub mod Bools
 pub mod Lists
 pub mod RunLaws
+pub mod ByteClasses
 pub mod Utf8Laws
 pub mod TokenBounds
 pub mod TokensCover
@@ -16,3 +17,12 @@ pub mod EventWords
 pub mod AnswerDerived
 pub mod Computing
 pub mod Examples
+pub mod SameRuns
+pub mod SameNumbers
+pub mod SameMarks
+pub mod SameTokens
+pub mod Separators
+pub mod LowerCase
+pub mod Boundaries
+pub mod Glued
+pub mod Locality

@@ -1,5 +1,5 @@
 -- Laws of lists that the libraries lack: a test made at every element, which a closed computation decides, a property of every
--- element, and what is left after the head of what is dropped. Each is proved by induction. Assumes nothing.
+-- element, and what is dropped or read behind the head. Each is proved by induction. Assumes nothing.
 use Prim.Native.Nat.{ℕ, zero, suc, _-_, _≤_, _<_}
 use native.Mathlib.Nat.{le-of-suc-le-suc, not-suc-le-zero}
 use native.Mathlib.Omega.{arith}
@@ -30,3 +30,9 @@ module _ {ℓ} {A : Type ℓ} where
   drop-past-head (suc n) x xs h =
       let e : suc n - 1 ≡ n = omega arith in
       ap (λ (k : ℕ). drop k xs) e
+
+  pub getD-past-head : (n : ℕ) (x : A) (xs : List A) (d : A) → 1 ≤ n → getD xs (n - 1) d ≡ getD (x ∷ xs) n d
+  getD-past-head zero x xs d h = absurd (not-suc-le-zero h)
+  getD-past-head (suc n) x xs d h =
+      let e : suc n - 1 ≡ n = omega arith in
+      ap (λ (k : ℕ). getD xs k d) e

@@ -5,7 +5,7 @@ use native.Mathlib.Numerals.{add-one}
 use native.Mathlib.Omega.{arith}
 use mathlib.Core.Path.{_≡_, refl, ap, _∙_}
 use mathlib.Core.Bool.{Bool, true, false}
-use mathlib.Core.List.{List}
+use mathlib.Core.List.{List, [], _∷_}
 use lib.ListN.{length, drop, drop-of-length-le}
 use lib.Seq.{drop-cons}
 use Rattle.aadl.specs.Bytes.{peek, run, run-end}
@@ -38,3 +38,8 @@ run-more-after p bs i k h e = run-more p bs (i + k) h e ∙ ap (run-end p bs) (o
 pub run-from-start : (p : ℕ → Bool) (bs : List ℕ) → run-end p bs 0 ≡ run p bs
 unfolding run-end
 run-from-start p bs = omega arith
+
+pub run-none : (p : ℕ → Bool) (bs : List ℕ) → p (peek bs 0) ≡ false → run p bs ≡ 0
+unfolding run
+run-none p [] e = refl
+run-none p (b ∷ bs) e = rw e refl
