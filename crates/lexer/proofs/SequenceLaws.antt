@@ -1,17 +1,13 @@
 -- Reading a text's UTF-8 sequences one after another: where the reader stands, what remains gives the same first ill-formed place.
 -- Assumes nothing.
-use Prim.Native.Nat.{ℕ, _+_, _-_, _≤_, _<_}
+use Prim.Native.Nat.{ℕ, _+_, _≤_, _<_}
 use native.Mathlib.Omega.{arith}
 use mathlib.Core.Path.{_≡_, sym, ap, _∙_}
 use mathlib.Core.List.{List}
-use lib.ListN.{length, take, drop, length-drop}
-use lib.Seq.{drop-drop, take-all}
+use lib.ListN.{length, drop, length-drop}
+use lib.Seq.{drop-drop}
 use Rattle.aadl.specs.Utf8.{sequence, ill-formed}
 use Rattle.aadl.proofs.Utf8Laws.{sequence-within, ill-formed-stops, ill-formed-goes-on}
-
--- the rest of a slice from a place on
-pub rest : (bs : List ℕ) (i : ℕ) → take (length bs - i) (drop i bs) ≡ drop i bs
-rest bs i = take-all (length bs - i) (drop i bs) (omega (arith, length-drop i bs))
 
 module _ (s : List ℕ) (at n : ℕ) (h : at < length s) (e : n ≡ sequence (drop at s)) where
   pub ill-here : n ≡ 0 → at + ill-formed (drop at s) ≡ at

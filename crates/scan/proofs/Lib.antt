@@ -1,4 +1,5 @@
-pub mod Walks
-pub mod NumberLaws
-pub mod Rows
+pub mod FirstByte
+pub mod StringLaws
+pub mod NumberCases
+pub mod WordLaws
 pub mod Marks

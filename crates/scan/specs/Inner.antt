@@ -1,21 +1,14 @@
 -- What the inner scanners give. Assumes nothing.
 use Prim.Native.Nat.{ℕ}
-use mathlib.Core.Bool.{Bool, cond}
+use mathlib.Core.Bool.{cond}
 use mathlib.Core.List.{List}
-use lib.ListN.{take}
 use lib.Dec.{eqb}
-use Rattle.predictive.specs.Grammar.{has}
 use Rattle.aadl.specs.declared.Token.{Token}
-use Rattle.aadl.specs.Bytes.{is-based, run}
 use Rattle.aadl.specs.Tokens.{Number, token, marks, longest-mark}
 
 -- what a token keeps of a number
 abbrev pub number-token : Number → Token
 number-token n = token (n .kind) (n .len)
-
--- a dot is among the inner digits that some bytes begin with
-abbrev pub dotted : List ℕ → Bool
-dotted bs = has (take (run is-based bs) bs) 46
 
 -- a mark of one byte by its kind, which is 0 for none
 abbrev pub single : ℕ → Token

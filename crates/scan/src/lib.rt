@@ -1,446 +1,379 @@
-// Scanners, one for each case of aadl's Tokens: each takes the part of the text that starts at the token and gives what the
-// definition gives. Names and order follow the Rust's lexer.
-use aadl::Quoted;
+// The lexer's scanners, one for each sort of token, with the Rust's names, on the text and a position: each gives the token that begins
+// there, as aadl's `token-of` has it. `scan_token` goes by the first byte to the scanner of its sort, which asks for such a byte and does
+// not look at it again. The tables are lent, as in `classes`.
+
 use aadl::Token;
 use classes::BASED;
+use classes::BEGINS_OTHERS;
 use classes::DIGITS;
 use classes::EXPONENTS;
 use classes::GROUPED;
-use classes::NOT_LF;
-use classes::SIGNS;
+use classes::HEX_DIGITS;
+use classes::SECOND;
 use classes::SPACES;
 use classes::WORD;
-use classes::at;
-use classes::is_digit;
-use classes::is_hex_digit;
-use classes::is_ident_start;
-use classes::is_whitespace;
+use classes::has_byte;
+use classes::in_class;
+use classes::lead;
+use classes::next_byte;
 use classes::peek;
-use classes::take_while;
+use classes::run_end;
+use classes::sequence_at;
 use cursor::window_at;
-use keywords::from_keyword;
+use keywords::keyword;
 use syntax_kind::ANNEX_CLOSE;
 use syntax_kind::ANNEX_OPEN;
 use syntax_kind::ARROW;
 use syntax_kind::BIDI_ARROW;
 use syntax_kind::BRACKET_ARROW;
-use syntax_kind::COLON;
 use syntax_kind::COLON_COLON;
-use syntax_kind::COMMA;
 use syntax_kind::COMMENT;
 use syntax_kind::DASH_BRACKET;
-use syntax_kind::DOT;
 use syntax_kind::DOT_DOT;
 use syntax_kind::ERROR;
 use syntax_kind::FAT_ARROW;
-use syntax_kind::HASH;
+use syntax_kind::IDENT;
 use syntax_kind::INTEGER_LIT;
-use syntax_kind::L_BRACKET;
-use syntax_kind::L_CURLY;
-use syntax_kind::L_PAREN;
-use syntax_kind::MINUS;
-use syntax_kind::PLUS;
 use syntax_kind::PLUS_ARROW;
-use syntax_kind::R_BRACKET;
-use syntax_kind::R_CURLY;
-use syntax_kind::R_PAREN;
 use syntax_kind::REAL_LIT;
-use syntax_kind::SEMICOLON;
-use syntax_kind::SLASH;
-use syntax_kind::STAR;
 use syntax_kind::STRING_LIT;
 use syntax_kind::WHITESPACE;
 ghost use mathlib.Core.Path.{_≡_};
-ghost use mathlib.Core.Bool.{false};
+ghost use mathlib.Core.Bool.{false, _&&_};
 ghost use mathlib.Core.List.{[], _∷_};
-ghost use Prim.Native.Nat.{_≤_};
+ghost use Prim.Native.Nat.{_+_, _≤_};
 ghost use lib.ListN.{length, drop};
-ghost use Rattle.aadl.specs.Bytes.{run, run-end, is-whitespace, is-based, not-lf};
-ghost use Rattle.aadl.specs.Tokens.{string-of, exponent-end, radix-digit, is-c-style, based, number-from, number-of, word-of, mark-of, token-of};
-ghost use Rattle.aadl.specs.Utf8.{_to_, fits, sequence};
-ghost use Rattle.scan.specs.Inner.{number-token, dotted, single, longest};
+ghost use lib.Dec.{eqb};
+ghost use Rattle.aadl.specs.Kinds.{#_, WHITESPACE as WHITE, IDENT as NAME, INTEGER-LIT, STRING-LIT};
+ghost use Rattle.aadl.specs.Bytes.{run-end, is-ident-continue};
+ghost use Rattle.aadl.specs.Tokens.{token, quoted, exponent-end, radix-digit, based, mark-of, token-of};
+ghost use Rattle.keywords.specs.Tables.{Lent};
+ghost use Rattle.classes.specs.Classes.{lead-table, class-table};
+ghost use Rattle.scan.specs.Inner.{number-token, single, longest};
+ghost use Rattle.scan.specs.Places.{Begins, Dashes, last-gap, Bounds, Other};
 
-// The length of the whitespace at the front.
-fn scan_whitespace(s: &[u8]) -> usize
-    ensures { λ r. ⌜ r ≡ run is-whitespace (now (s .entry)) ⌝ }
+fn token(kind: u32, len: usize) -> Token
+    ensures { λ r. ⌜ r ≡ token kind len ⌝ }
 {
-    take_while(s, 0, SPACES)
+    Token { kind, len }
 }
 
-// The length up to the end of the line: what a comment takes.
-fn scan_comment(s: &[u8]) -> usize
-    ensures { λ r. ⌜ r ≡ run not-lf (now (s .entry)) ⌝ }
+// WHITESPACE, COMMENTS, STRINGS
+
+fn scan_whitespace(s: &[u8], at: usize, classes: &[u8; 256]) -> Token
+    requires { ⌜ Begins (now s) at (# WHITE) × (now classes ≡ class-table) ⌝ }
+    ensures { λ r. ⌜ r ≡ token-of (drop at (now (s .entry))) ⌝ }
 {
-    take_while(s, 0, NOT_LF)
+    token(WHITESPACE, run_end(s, at + 1, SPACES, classes) - at)
 }
 
-// The string whose opening quote is the first byte.
-fn scan_string(s: &[u8]) -> Quoted
-    ensures { λ r. ⌜ r ≡ string-of (now (s .entry)) ⌝ }
+// The comment whose `--` is at a place: up to the end of its line.
+fn scan_comment(s: &[u8], at: usize) -> Token
+    requires { ⌜ Dashes (now s) at ⌝ }
+    ensures { λ r. ⌜ r ≡ token-of (drop at (now (s .entry))) ⌝ }
 {
-    let mut i = 1;
-    // the byte before place i is a quote that closes the string unless another one follows
-    let mut quote = false;
+    token(COMMENT, next_byte(s, at + 2, b'\n') - at)
+}
+
+// The place after the string whose bytes begin at a place: behind the next quote that is not doubled, or the end.
+fn string_end(s: &[u8], from: usize) -> usize
+    ensures { λ r. ⌜ r ≡ from + quoted false (drop from (now (s .entry))) .len ⌝ }
+{
+    let mut i = from;
     while i < s.len() {
-        let b = s[i];
-        if quote & !(b == b'"') {
-            return Quoted {
-                len: i,
-                closed: true,
-            };
+        if s[i] == b'"' {
+            if peek(s, i + 1) != b'"' {
+                return i + 1;
+            }
+            i += 2;
+        } else {
+            i += 1;
         }
-        quote = !quote & (b == b'"');
-        i += 1;
     }
-    Quoted {
-        len: i,
-        closed: quote,
-    }
+    i
 }
+
+fn scan_string(s: &[u8], at: usize) -> Token
+    requires { ⌜ Begins (now s) at (# STRING-LIT) ⌝ }
+    ensures { λ r. ⌜ r ≡ token-of (drop at (now (s .entry))) ⌝ }
+{
+    token(STRING_LIT, string_end(s, at + 1) - at)
+}
+
+// NUMBERS
 
 // Where the exponent that may stand at a place ends.
-fn exponent(s: &[u8], i: usize) -> usize
+fn exponent(s: &[u8], i: usize, classes: &[u8; 256]) -> usize
+    requires { ⌜ now classes ≡ class-table ⌝ }
     ensures { λ r. ⌜ r ≡ exponent-end (now (s .entry)) i ⌝ }
 {
-    if at(s, i, EXPONENTS) {
-        if at(s, i + 1, SIGNS) {
-            return take_while(s, i + 2, DIGITS);
+    if in_class(peek(s, i), EXPONENTS, classes) {
+        let b = peek(s, i + 1);
+        if (b == b'+') | (b == b'-') {
+            return run_end(s, i + 2, DIGITS, classes);
         }
-        return take_while(s, i + 1, DIGITS);
+        return run_end(s, i + 1, DIGITS, classes);
     }
     i
 }
 
 // Whether a C-style radix letter stands, and a digit of that radix after it.
-fn is_radix_digit(m: u8, b: u8) -> bool
+fn is_radix_digit(m: u8, b: u8, classes: &[u8; 256]) -> bool
+    requires { ⌜ now classes ≡ class-table ⌝ }
     ensures { λ r. ⌜ r ≡ radix-digit m b ⌝ }
 {
-    if (m == b'x') | (m == b'X') {
-        return is_hex_digit(b);
-    }
-    if (m == b'o') | (m == b'O') {
-        return (b'0' <= b) & (b <= b'7');
-    }
-    ((m == b'b') | (m == b'B')) & ((b'0' <= b) & (b <= b'1'))
+    (((m == b'x') | (m == b'X')) & in_class(b, HEX_DIGITS, classes))
+        | (((m == b'o') | (m == b'O')) & ((b'0' <= b) & (b <= b'7')))
+        | (((m == b'b') | (m == b'B')) & ((b'0' <= b) & (b <= b'1')))
 }
 
-// Whether d digits at the front are just `0`, with a C-style radix letter and a digit of that radix after it.
-pub fn is_c_style(s: &[u8], d: usize) -> bool
-    ensures { λ r. ⌜ r ≡ is-c-style (now (s .entry)) d ⌝ }
+// Whether d digits, the first of them given, are just `0`, with a C-style radix letter and a digit of that radix after it.
+fn is_c_style(first: u8, d: usize, m: u8, b: u8, classes: &[u8; 256]) -> bool
+    requires { ⌜ now classes ≡ class-table ⌝ }
+    ensures { λ r. ⌜ r ≡ ((eqb d 1 && eqb first 48) && radix-digit m b) ⌝ }
 {
     if d != 1 {
         return false;
     }
-    let w = window_at(s, 0);
-    if w.first != b'0' {
+    if first != b'0' {
         return false;
     }
-    is_radix_digit(w.second, w.third)
+    is_radix_digit(m, b, classes)
 }
 
-// Inner digits of a number with a base: where they end, and whether a dot is among them.
-struct InnerDigits {
-    end: usize,
-    dot: bool,
-}
-
-// The inner digits that begin at a place.
-fn inner_digits(s: &[u8], from: usize) -> InnerDigits
-    requires { ⌜ from ≤ length (now s) ⌝ }
-    ensures { λ r. ⌜ (r .end ≡ run-end is-based (now (s .entry)) from) × (r .dot ≡ dotted (drop from (now (s .entry)))) × (r .end ≤ length (now (s .entry))) ⌝ }
-{
-    let mut i = from;
-    let mut dot = false;
-    while i < s.len() {
-        if !at(s, i, BASED) {
-            return InnerDigits { end: i, dot };
-        }
-        dot = dot | (b'.' == s[i]);
-        i += 1;
-    }
-    InnerDigits { end: i, dot }
-}
-
-// A number with a base, whose inner digits begin at a place.
-fn scan_based(s: &[u8], i: usize) -> Token
-    requires { ⌜ i ≤ length (now s) ⌝ }
+// A number with a base, whose inner digits begin at a place: its kind, and in the place of its length where it ends.
+fn scan_based(s: &[u8], i: usize, classes: &[u8; 256]) -> Token
+    requires { ⌜ (i ≤ length (now s)) × (now classes ≡ class-table) ⌝ }
     ensures { λ r. ⌜ r ≡ number-token (based (now (s .entry)) i) ⌝ }
 {
-    let inner = inner_digits(s, i);
-    let e = inner.end;
+    let e = run_end(s, i, BASED, classes);
     let mut f = e;
     if peek(s, e) == b'#' {
         f = e + 1;
     }
-    let len = exponent(s, f);
-    if inner.dot | at(s, f, EXPONENTS) {
-        return Token {
-            kind: REAL_LIT,
-            len,
-        };
+    let end = exponent(s, f, classes);
+    if has_byte(&s[i..e], b'.') | in_class(peek(s, f), EXPONENTS, classes) {
+        return token(REAL_LIT, end);
     }
-    Token {
-        kind: INTEGER_LIT,
-        len,
-    }
+    token(INTEGER_LIT, end)
 }
 
-// A number that begins with d decimal digits and is no C-style literal: the first case that fits.
-pub fn scan_number_from(s: &[u8], d: usize) -> Token
-    requires { ⌜ (d ≤ length (now s)) × (is-c-style (now s) d ≡ false) ⌝ }
-    ensures { λ r. ⌜ r ≡ number-token (number-from (now (s .entry)) d) ⌝ }
+// The number at a place: what stands where its digits end tells the first case that fits.
+fn scan_number(s: &[u8], at: usize, classes: &[u8; 256]) -> Token
+    requires { ⌜ Begins (now s) at (# INTEGER-LIT) × (now classes ≡ class-table) ⌝ }
+    ensures { λ r. ⌜ r ≡ token-of (drop at (now (s .entry))) ⌝ }
 {
-    if peek(s, d) == b'#' {
-        return scan_based(s, d + 1);
+    let d = run_end(s, at + 1, DIGITS, classes);
+    let w = window_at(s, d);
+    let b = w.first;
+    let c = w.second;
+    if is_c_style(s[at], d - at, b, c, classes) {
+        return token(ERROR, run_end(s, at + 1, WORD, classes) - at);
     }
-    if (peek(s, d) == b'.') & !(peek(s, d + 1) == b'.') {
-        return Token {
-            kind: REAL_LIT,
-            len: exponent(s, take_while(s, d + 1, DIGITS)),
-        };
+    if b == b'#' {
+        let t = scan_based(s, d + 1, classes);
+        return token(t.kind, t.len - at);
     }
-    if at(s, d, EXPONENTS) {
-        return Token {
-            kind: REAL_LIT,
-            len: exponent(s, d),
-        };
+    if (b == b'.') & !(c == b'.') {
+        return token(
+            REAL_LIT,
+            exponent(s, run_end(s, d + 1, DIGITS, classes), classes) - at,
+        );
     }
-    Token {
-        kind: INTEGER_LIT,
-        len: take_while(s, d, GROUPED),
+    if in_class(b, EXPONENTS, classes) {
+        return token(REAL_LIT, exponent(s, d, classes) - at);
     }
+    token(INTEGER_LIT, run_end(s, d, GROUPED, classes) - at)
 }
 
-// The number at the front.
-fn scan_number(s: &[u8]) -> Token
-    ensures { λ r. ⌜ r ≡ number-token (number-of (now (s .entry))) ⌝ }
-{
-    let d = take_while(s, 0, DIGITS);
-    if is_c_style(s, d) {
-        return Token {
-            kind: ERROR,
-            len: take_while(s, 0, WORD),
-        };
-    }
-    scan_number_from(s, d)
-}
+// WORDS
 
-// The word at the front: a keyword, or an identifier.
-fn scan_ident_or_keyword(s: &[u8]) -> Token
-    ensures { λ r. ⌜ r ≡ word-of (now (s .entry)) ⌝ }
+// The place of the last byte that belongs to no word, or 0: a word that begins before it also ends before it, so that `word_end` needs
+// no test for the text's end there.
+pub fn word_bound(s: &[u8], classes: &[u8; 256]) -> usize
+    requires { ⌜ now classes ≡ class-table ⌝ }
+    ensures { λ r. ⌜ r ≡ last-gap (now (s .entry)) (length (now (s .entry))) ⌝ }
 {
-    let n = take_while(s, 0, WORD);
-    Token {
-        kind: from_keyword(&s[..n]),
-        len: n,
-    }
-}
-
-// Whether a row of table 3-7 with two ranges fits: the first byte from low to high, the second from least to most.
-fn fits_two(s: &[u8], low: u8, high: u8, least: u8, most: u8) -> bool
-    ensures { λ r. ⌜ r ≡ fits (low to high ∷ least to most ∷ []) (now (s .entry)) ⌝ }
-{
-    let a = peek(s, 0);
-    let b = peek(s, 1);
-    (2 <= s.len()) & ((low <= a) & (a <= high)) & ((least <= b) & (b <= most))
-}
-
-// Whether a row with three ranges fits, the last one that of every later byte.
-fn fits_three(s: &[u8], low: u8, high: u8, least: u8, most: u8) -> bool
-    ensures { λ r. ⌜ r ≡ fits (low to high ∷ least to most ∷ 0x80 to 0xBF ∷ []) (now (s .entry)) ⌝ }
-{
-    let b = peek(s, 2);
-    fits_two(s, low, high, least, most) & ((0x80 <= b) & (b <= 0xBF))
-}
-
-// Whether a row with four ranges fits, the last two those of every later byte.
-fn fits_four(s: &[u8], low: u8, high: u8, least: u8, most: u8) -> bool
-    ensures { λ r. ⌜ r ≡ fits (low to high ∷ least to most ∷ 0x80 to 0xBF ∷ 0x80 to 0xBF ∷ []) (now (s .entry)) ⌝ }
-{
-    let b = peek(s, 3);
-    fits_three(s, low, high, least, most) & ((0x80 <= b) & (b <= 0xBF))
-}
-
-// The length of the well-formed UTF-8 sequence at the front, or 0: the rows of table 3-7 in order.
-pub fn scan_sequence(s: &[u8]) -> usize
-    ensures { λ r. ⌜ r ≡ sequence (now (s .entry)) ⌝ }
-{
-    if (1 <= s.len()) & (peek(s, 0) <= 0x7F) {
-        return 1;
-    }
-    if fits_two(s, 0xC2, 0xDF, 0x80, 0xBF) {
-        return 2;
-    }
-    if fits_three(s, 0xE0, 0xE0, 0xA0, 0xBF)
-        | fits_three(s, 0xE1, 0xEC, 0x80, 0xBF)
-        | fits_three(s, 0xED, 0xED, 0x80, 0x9F)
-        | fits_three(s, 0xEE, 0xEF, 0x80, 0xBF)
-    {
-        return 3;
-    }
-    if fits_four(s, 0xF0, 0xF0, 0x90, 0xBF)
-        | fits_four(s, 0xF1, 0xF3, 0x80, 0xBF)
-        | fits_four(s, 0xF4, 0xF4, 0x80, 0x8F)
-    {
-        return 4;
+    let mut i = s.len();
+    while 0 < i {
+        i -= 1;
+        if !in_class(s[i], WORD, classes) {
+            return i;
+        }
     }
     0
 }
 
-// The kind of the mark that is one byte, or 0.
-fn mark_one(a: u8) -> u32
-    ensures { λ r. ⌜ single r ≡ longest (a ∷ []) ⌝ }
+// The place after the letters, digits and `_` that begin at a place.
+fn word_end(s: &[u8], from: usize, bound: usize, classes: &[u8; 256]) -> usize
+    requires { ⌜ (1 ≤ from) × (from ≤ length (now s)) × Bounds (now s) bound × (now classes ≡ class-table) ⌝ }
+    ensures { λ r. ⌜ (r ≡ run-end is-ident-continue (now (s .entry)) from) × (r ≤ length (now (s .entry))) ⌝ }
 {
-    match a {
-        b';' => SEMICOLON,
-        b':' => COLON,
-        b',' => COMMA,
-        b'.' => DOT,
-        b'(' => L_PAREN,
-        b')' => R_PAREN,
-        b'{' => L_CURLY,
-        b'}' => R_CURLY,
-        b'[' => L_BRACKET,
-        b']' => R_BRACKET,
-        b'+' => PLUS,
-        b'-' => MINUS,
-        b'*' => STAR,
-        b'/' => SLASH,
-        b'#' => HASH,
-        _ => 0,
+    if bound < from {
+        return run_end(s, from, WORD, classes);
+    }
+    let mut i = from;
+    loop {
+        if !in_class(s[i], WORD, classes) {
+            return i;
+        }
+        if !in_class(s[i + 1], WORD, classes) {
+            return i + 1;
+        }
+        if !in_class(s[i + 2], WORD, classes) {
+            return i + 2;
+        }
+        if !in_class(s[i + 3], WORD, classes) {
+            return i + 3;
+        }
+        i += 4;
     }
 }
 
-// The longest mark that two bytes begin with; kind 0 and length 0 for none, here and below.
-fn mark_two(a: u8, b: u8) -> Token
-    ensures { λ r. ⌜ r ≡ longest (a ∷ b ∷ []) ⌝ }
+fn scan_ident_or_keyword(
+    s: &[u8],
+    at: usize,
+    bound: usize,
+    classes: &[u8; 256],
+    letters: &[u8; 510],
+    starts: &[u16; 82],
+    lengths: &[u8; 82],
+    kinds: &[u8; 82],
+    slots: &[u8; 256],
+) -> Token
+    requires { ⌜ Begins (now s) at (# NAME) × Bounds (now s) bound × (now classes ≡ class-table) × Lent (now letters) (now starts) (now lengths) (now kinds) (now slots) ⌝ }
+    ensures { λ r. ⌜ r ≡ token-of (drop at (now (s .entry))) ⌝ }
 {
-    if (a == b'-') & (b == b'>') {
-        return Token {
-            kind: ARROW,
-            len: 2,
-        };
-    }
-    if (a == b'-') & (b == b'[') {
-        return Token {
-            kind: DASH_BRACKET,
-            len: 2,
-        };
-    }
-    if (a == b'=') & (b == b'>') {
-        return Token {
-            kind: FAT_ARROW,
-            len: 2,
-        };
-    }
-    if (a == b'.') & (b == b'.') {
-        return Token {
-            kind: DOT_DOT,
-            len: 2,
-        };
-    }
-    if (a == b':') & (b == b':') {
-        return Token {
-            kind: COLON_COLON,
-            len: 2,
-        };
-    }
-    let kind = mark_one(a);
-    if kind == 0 {
-        return Token { kind: 0, len: 0 };
-    }
-    Token { kind, len: 1 }
+    let e = word_end(s, at + 1, bound, classes);
+    token(
+        keyword(&s[at..e], letters, starts, lengths, kinds, slots),
+        e - at,
+    )
 }
 
-// The longest mark that three bytes begin with.
-fn mark_three(a: u8, b: u8, c: u8) -> Token
+// PUNCTUATION
+
+// The longest mark that three bytes begin with; `one` is the kind of the mark that the first is, kind 0 and length 0 stand for none.
+fn longer_mark(a: u8, b: u8, c: u8, one: u32) -> Token
+    requires { ⌜ single one ≡ longest (a ∷ []) ⌝ }
     ensures { λ r. ⌜ r ≡ longest (a ∷ b ∷ c ∷ []) ⌝ }
 {
-    if (a == b'{') & (b == b'*') & (c == b'*') {
-        return Token {
-            kind: ANNEX_OPEN,
-            len: 3,
-        };
+    if (a == b'=') & (b == b'>') {
+        return token(FAT_ARROW, 2);
     }
-    if (a == b'*') & (b == b'*') & (c == b'}') {
-        return Token {
-            kind: ANNEX_CLOSE,
-            len: 3,
-        };
+    if (a == b':') & (b == b':') {
+        return token(COLON_COLON, 2);
+    }
+    if (a == b'.') & (b == b'.') {
+        return token(DOT_DOT, 2);
+    }
+    if (a == b'-') & (b == b'>') {
+        return token(ARROW, 2);
+    }
+    if (a == b'-') & (b == b'[') {
+        return token(DASH_BRACKET, 2);
     }
     if (a == b'+') & (b == b'=') & (c == b'>') {
-        return Token {
-            kind: PLUS_ARROW,
-            len: 3,
-        };
+        return token(PLUS_ARROW, 3);
+    }
+    if (a == b'{') & (b == b'*') & (c == b'*') {
+        return token(ANNEX_OPEN, 3);
+    }
+    if (a == b'*') & (b == b'*') & (c == b'}') {
+        return token(ANNEX_CLOSE, 3);
     }
     if (a == b']') & (b == b'-') & (c == b'>') {
-        return Token {
-            kind: BRACKET_ARROW,
-            len: 3,
-        };
+        return token(BRACKET_ARROW, 3);
     }
     if (a == b'<') & (b == b'-') & (c == b'>') {
-        return Token {
-            kind: BIDI_ARROW,
-            len: 3,
-        };
+        return token(BIDI_ARROW, 3);
     }
-    mark_two(a, b)
+    one_mark(one)
 }
 
-// The longest mark at the front, or one character as an error; a byte that begins no character is one by itself.
-fn scan_mark(s: &[u8]) -> Token
-    ensures { λ r. ⌜ r ≡ mark-of (now (s .entry)) ⌝ }
+// The mark of one byte, by its kind, which is 0 for none.
+fn one_mark(one: u32) -> Token
+    ensures { λ r. ⌜ r ≡ single one ⌝ }
 {
-    let w = window_at(s, 0);
-    let mark = mark_three(w.first, w.second, w.third);
+    if one == 0 {
+        return token(0, 0);
+    }
+    token(one, 1)
+}
+
+// A mark, or, where there is none, one character as an error; a byte that begins no character is one by itself.
+fn mark_or_error(s: &[u8], at: usize, mark: Token) -> Token
+    requires { ⌜ (at ≤ length (now s)) × (mark ≡ longest (drop at (now s))) ⌝ }
+    ensures { λ r. ⌜ r ≡ mark-of (drop at (now (s .entry))) ⌝ }
+{
     if mark.len != 0 {
         return mark;
     }
-    let n = scan_sequence(s);
+    let n = sequence_at(s, at);
     if n == 0 {
-        return Token {
-            kind: ERROR,
-            len: 1,
-        };
+        return token(ERROR, 1);
     }
-    Token {
-        kind: ERROR,
-        len: n,
-    }
+    token(ERROR, n)
 }
 
-// The token at the front of a text that is not empty.
-pub fn scan_token(s: &[u8]) -> Token
-    ensures { λ r. ⌜ r ≡ token-of (now (s .entry)) ⌝ }
+// A comment, a mark or an error, `k` being what the first byte says: a byte that stands second in no mark makes none longer.
+fn scan_mark(s: &[u8], at: usize, k: u32, classes: &[u8; 256]) -> Token
+    requires { ⌜ Begins (now s) at k × Other k × (now classes ≡ class-table) ⌝ }
+    ensures { λ r. ⌜ r ≡ token-of (drop at (now (s .entry))) ⌝ }
 {
-    let w = window_at(s, 0);
-    let b = w.first;
-    if is_whitespace(b) {
-        return Token {
-            kind: WHITESPACE,
-            len: scan_whitespace(s),
-        };
+    let w = window_at(s, at);
+    let a = w.first;
+    let b = w.second;
+    if !in_class(b, SECOND, classes) {
+        return mark_or_error(s, at, one_mark(k % BEGINS_OTHERS));
     }
-    if (b == b'-') & (w.second == b'-') {
-        return Token {
-            kind: COMMENT,
-            len: scan_comment(s),
-        };
+    if (a == b'-') & (b == b'-') {
+        return scan_comment(s, at);
     }
-    if b == b'"' {
-        let string = scan_string(s);
-        return Token {
-            kind: STRING_LIT,
-            len: string.len,
-        };
+    mark_or_error(s, at, longer_mark(a, b, w.third, k % BEGINS_OTHERS))
+}
+
+// The token at a place. Marks that no other mark begins with are told by their first byte.
+pub fn scan_token(
+    s: &[u8],
+    at: usize,
+    bound: usize,
+    leads: &[u8; 256],
+    classes: &[u8; 256],
+    letters: &[u8; 510],
+    starts: &[u16; 82],
+    lengths: &[u8; 82],
+    kinds: &[u8; 82],
+    slots: &[u8; 256],
+) -> Token
+    requires { ⌜ (at + 1 ≤ length (now s)) × Bounds (now s) bound × (now leads ≡ lead-table) × (now classes ≡ class-table) × Lent (now letters) (now starts) (now lengths) (now kinds) (now slots) ⌝ }
+    ensures { λ r. ⌜ r ≡ token-of (drop at (now (s .entry))) ⌝ }
+{
+    let k = lead(s[at], leads);
+    if k == IDENT {
+        return scan_ident_or_keyword(
+            s,
+            at,
+            bound,
+            classes,
+            letters,
+            starts,
+            lengths,
+            kinds,
+            slots,
+        );
     }
-    if is_digit(b) {
-        return scan_number(s);
+    if k == WHITESPACE {
+        return scan_whitespace(s, at, classes);
     }
-    if is_ident_start(b) {
-        return scan_ident_or_keyword(s);
+    if (WHITESPACE < k) & (k < INTEGER_LIT) {
+        return token(k, 1);
     }
-    scan_mark(s)
+    if k == INTEGER_LIT {
+        return scan_number(s, at, classes);
+    }
+    if k == STRING_LIT {
+        return scan_string(s, at);
+    }
+    scan_mark(s, at, k, classes)
 }

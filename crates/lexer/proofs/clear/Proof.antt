@@ -13,9 +13,6 @@ Inv-loop words₀ i₀ words i = Filled 0 words₀ words i
 abbrev μ-loop : tie.MeasureT-loop
 μ-loop words₀ i₀ words i = length words₀ - i
 
-loop-holds : tie.Need-loop-holds Inv-loop μ-loop
-loop-holds c = (refl, refl, search needs)
-
 loop-again : tie.Need-loop-again Inv-loop μ-loop
 loop-again c = filled-more 0 (c .before .before .args .words .now) (c .before .loop .words) (c .before .loop .i) (search needs) (c .before .loop .inv)
 
@@ -30,7 +27,7 @@ clear-spec =
     (tie.spec
     Inv-loop
     μ-loop
-    loop-holds
+    (λ c. (refl, refl, search needs))
     (λ c. search needs)
     (λ c. search needs)
     (λ c. search needs)

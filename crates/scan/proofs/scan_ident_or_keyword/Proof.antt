@@ -1,33 +1,30 @@
--- `scan::scan_ident_or_keyword` meets its contract: the word is a run from the start. Assumes nothing.
-use mathlib.Core.Path.{_≡_, sym, _∙_}
+-- The word's end is that of its run, and its kind that of the bytes up to there (WordLaws). Assumes nothing.
+use Prim.Native.Nat.{_+_}
+use mathlib.Core.Path.{_∙_}
 use native.Mathlib.Omega.{arith}
-use lib.ListN.{take}
-use lib.Seq.{length-take-le}
-use Rattle.classes.specs.Members.{member}
-use Rattle.aadl.proofs.RunLaws.{run-from-start}
-use Rattle.aadl.specs.Bytes.{run, is-ident-continue}
-use Rattle.aadl.specs.Words.{kind-of-word}
-use Rattle.aadl.specs.Tokens.{token, word-of}
+use Rattle.aadl.specs.Bytes.{is-ident-continue}
+use Rattle.aadl.proofs.RunLaws.{run-end-from}
+use Rattle.scan.proofs.WordLaws.{word-is}
+use borrow.Author.Needs.{needs}
 use Rattle.scan.proofs.scan_ident_or_keyword.Statement.{statement}
 use Rattle.scan.proofs.scan_ident_or_keyword.Tie as tie
 
-slice-aggregate-from-keyword : tie.Need-slice-aggregate-from-keyword
-slice-aggregate-from-keyword c =
-    sym (length-take-le (c .before .take-while .result) (c .before .before .before .args .s .now) (omega (arith, c .before .take-while .ensures .1)))
-
 returns : tie.Need-returns
-unfolding word-of member
 returns c =
-    let s = c .before .before .before .before .args .s .now in
-    let n = c .before .before .take-while .result in
-    let p : n ≡ run is-ident-continue s = c .before .before .take-while .ensures .0 ∙ run-from-start is-ident-continue s in
-    (λ i. token (c .from-keyword .ensures i) n) ∙ (λ i. token (kind-of-word (take (p i) s)) (p i))
+    let q = c .before .before .before .before .before in
+    let e = c .before .before .before .word-end in
+    c .token .ensures ∙ word-is (q .args .s .now) (q .args .at) (e .result) (c .before .keyword .result) (q .pre .0) (e .ensures .0) (c .before .keyword .ensures)
 
 pub scan-ident-or-keyword-spec : {M : Type 1} → statement M
 scan-ident-or-keyword-spec =
     tie.close
     (tie.spec
-    (λ c κs. tt)
-    slice-aggregate-from-keyword
-    (λ c κs. tt)
+    (λ c. search needs)
+    (λ c κs. search needs)
+    (λ c. let a = c .before .before .args in omega (arith, c .word-end .ensures .0, run-end-from is-ident-continue (a .s .now) (a .at + 1)))
+    (λ c. let a = c .before .before .args in omega (arith, c .word-end .ensures .0, run-end-from is-ident-continue (a .s .now) (a .at + 1)))
+    (λ c. search needs)
+    (λ c κs. search needs)
+    (λ c. let a = c .before .before .before .before .args in omega (arith, c .before .before .word-end .ensures .0, run-end-from is-ident-continue (a .s .now) (a .at + 1)))
+    (λ c κs. search needs)
     returns)

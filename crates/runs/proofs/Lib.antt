@@ -1,2 +1,0 @@
-pub mod ClassTable
-pub mod Chunks
