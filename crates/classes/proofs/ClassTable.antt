@@ -33,7 +33,7 @@ class-at b h = tabled-at class-of 256 b h
 
 -- THE RULE -------------------------------------------------------------------------------------------------------------
 
-beq-true : (a b : Bool) → Bool·beq a b ≡ true → a ≡ b
+pub beq-true : (a b : Bool) → Bool·beq a b ≡ true → a ≡ b
 beq-true true true e = refl
 beq-true true false e = never e
 beq-true false true e = never e

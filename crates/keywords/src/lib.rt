@@ -4,30 +4,58 @@ mod tables; // tables.rt: the table of words by columns
 use syntax_kind::IDENT;
 use syntax_kind::wide;
 use syntax_kind::wide32;
-pub use tables::KINDS;
-pub use tables::LENGTHS;
-pub use tables::LETTERS;
-pub use tables::SLOTS;
-pub use tables::STARTS;
+use tables::KINDS;
+use tables::LENGTHS;
+use tables::LETTERS;
+use tables::SLOTS;
+use tables::STARTS;
 ghost use Prim.Native.Nat.{_≤_, _<_};
 ghost use mathlib.Core.Path.{_≡_};
 ghost use lib.ListN.{length};
 ghost use Rattle.aadl.specs.Words.{lower, same, kind-of-word};
 ghost use Rattle.keywords.specs.Tables.{row, word-letters, word-starts, word-lengths, hash-of, Lent};
 
-// The kind of a word, in any mix of ASCII case: a keyword's, or IDENT.
-pub fn from_keyword(word: &[u8]) -> u32
-    ensures { λ r. ⌜ r ≡ kind-of-word (now (word .entry)) ⌝ }
+// The columns of the table of words. Reading a `const` array builds it anew, so who looks up many words has the tables made once and
+// lends them.
+pub struct WordTables {
+    pub letters: [u8; 510],
+    pub starts: [u16; 82],
+    pub lengths: [u8; 82],
+    pub kinds: [u8; 82],
+    pub slots: [u8; 256],
+}
+
+pub fn word_tables() -> WordTables
+    ensures { λ r. ⌜ Lent (r .letters) (r .starts) (r .lengths) (r .kinds) (r .slots) ⌝ }
 {
     let letters = LETTERS;
     let starts = STARTS;
     let lengths = LENGTHS;
     let kinds = KINDS;
     let slots = SLOTS;
+    WordTables {
+        letters,
+        starts,
+        lengths,
+        kinds,
+        slots,
+    }
+}
+
+// The kind of a word, in any mix of ASCII case: a keyword's, or IDENT.
+pub fn from_keyword(word: &[u8]) -> u32
+    ensures { λ r. ⌜ r ≡ kind-of-word (now (word .entry)) ⌝ }
+{
+    let t = word_tables();
+    let letters = t.letters;
+    let starts = t.starts;
+    let lengths = t.lengths;
+    let kinds = t.kinds;
+    let slots = t.slots;
     keyword(word, &letters, &starts, &lengths, &kinds, &slots)
 }
 
-// The same over lent tables: reading a `const` array builds it anew, so who looks up many words copies the tables once.
+// The same over lent tables.
 pub fn keyword(
     word: &[u8],
     letters: &[u8; 510],

@@ -1,16 +1,12 @@
 // The tokens-only call: UTF-8, tokens, refusals 1 to 3; and the text of a token by its number.
 
 use aadl::Answer;
-use classes::CLASSES;
-use classes::LEADS;
+use classes::class_table;
 use classes::is_ascii;
+use classes::lead_table;
 use classes::sequence_at;
 use classes::skip_ascii;
-use keywords::KINDS;
-use keywords::LENGTHS;
-use keywords::LETTERS;
-use keywords::SLOTS;
-use keywords::STARTS;
+use keywords::word_tables;
 use scan::scan_token;
 use scan::word_bound;
 ghost use mathlib.Core.Path.{_≡_};
@@ -52,13 +48,14 @@ fn fill(s: &[u8], tokens: &mut [u32]) -> Filled
     requires { ⌜ length (now s) ≤ 32768 ⌝ }
     ensures { λ r. ⌜ (r ≡ filled-of (now (s .entry)) (length (now (tokens .entry)))) × (now (tokens .exit) ≡ write (token-words (now (s .entry))) (now (tokens .entry))) ⌝ }
 {
-    let leads = LEADS;
-    let classes = CLASSES;
-    let letters = LETTERS;
-    let starts = STARTS;
-    let lengths = LENGTHS;
-    let kinds = KINDS;
-    let slots = SLOTS;
+    let leads = lead_table();
+    let classes = class_table();
+    let t = word_tables();
+    let letters = t.letters;
+    let starts = t.starts;
+    let lengths = t.lengths;
+    let kinds = t.kinds;
+    let slots = t.slots;
     let bound = word_bound(s, &classes);
     let mut at = 0;
     let mut n = 0;

@@ -1,94 +1,96 @@
--- What the first byte of a token says of it (`lead-of`): its sort, that a run of the sort goes on from the next byte, and the mark that no
--- other begins with. Each is one computed test over all bytes. Assumes nothing.
+-- What the first byte of a token says of it (`lead-of`): which tests of the definition it passes, by a computed test over all bytes each
+-- (`sorted`); so its sort, and that a run of the sort goes on from the next byte. Assumes nothing.
 use Prim.Native.Nat.{ℕ, _+_, _-_, _<_}
 use native.Mathlib.Omega.{arith}
-use mathlib.Core.Path.{_≡_, refl, sym, ap, _∙_}
-use mathlib.Core.Bool.{Bool, true, false, not, _&&_, _||_}
+use mathlib.Core.Path.{_≡_, refl, sym, ap, subst, _∙_}
+use mathlib.Core.Bool.{Bool, true, false, Bool·beq, not, _&&_, _||_, and-true}
 use mathlib.Core.List.{List}
 use lib.ListN.{getD, drop}
 use lib.Seq.{drop-cons, getD-drop}
-use lib.Dec.{eqb}
-use borrow.Author.Tests.{eq-eqb, not-true}
+use lib.Dec.{eqb, ltb}
+use borrow.Author.Tests.{not-true}
 use Rattle.predictive.proofs.Tests.{never, or-neither}
 use Rattle.aadl.specs.Kinds.{#_, WHITESPACE, COMMENT, INTEGER-LIT, STRING-LIT, IDENT}
 use Rattle.aadl.specs.Bytes.{peek, is-whitespace, is-digit, is-ident-start, is-ident-continue, not-lf, run, run-end}
 use Rattle.aadl.specs.Tokens.{token, string-of, number-of, word-of, marks, mark-of, token-of}
 use Rattle.aadl.proofs.RunLaws.{run-more, run-rest}
 use Rattle.aadl.proofs.Bools.{below, below-at}
-use Rattle.classes.specs.Classes.{lead-of}
+use Rattle.classes.specs.Classes.{BEGINS-OTHERS, lead-of}
+use Rattle.classes.proofs.ClassTable.{beq-true}
 use Rattle.scan.specs.Inner.{number-token}
 use Rattle.scan.specs.Places.{Begins, Other, Dashes}
 
-implied : (a b : Bool) → a ≡ true → (not a || b) ≡ true → b ≡ true
-implied true b e t = t
-implied false b e t = never e
-
 -- what all bytes with a property have, by a test of each byte
 pub all-bytes : (p g : ℕ → Bool) → below (λ (b : ℕ). not (p b) || g b) 256 ≡ true → (b : ℕ) → b < 256 → p b ≡ true → g b ≡ true
-all-bytes p g t b l e = implied (p b) (g b) e (below-at (λ (b : ℕ). not (p b) || g b) 256 t b l)
+all-bytes p g t b l e = rw e at (below-at (λ (b : ℕ). not (p b) || g b) 256 t b l)
+
+-- What the first byte says tells which of the tests that a token's definition makes of it hold; `-` is a mark that others begin with.
+pub record Sorted (k b : ℕ) : Type 0 where
+  pub white : is-whitespace b ≡ eqb k (# WHITESPACE)
+  pub quote : eqb b 34 ≡ eqb k (# STRING-LIT)
+  pub digit : is-digit b ≡ eqb k (# INTEGER-LIT)
+  pub name : is-ident-start b ≡ eqb k (# IDENT)
+  pub dash : (eqb b 45 && ltb k BEGINS-OTHERS) ≡ false
+
+agree : (p : ℕ → Bool) (c : ℕ) → below (λ (b : ℕ). Bool·beq (p b) (eqb (lead-of b) c)) 256 ≡ true → (b : ℕ) → b < 256 → p b ≡ eqb (lead-of b) c
+agree p c t b h = beq-true (p b) (eqb (lead-of b) c) (below-at (λ (b : ℕ). Bool·beq (p b) (eqb (lead-of b) c)) 256 t b h)
+
+sorted : (b : ℕ) → b < 256 → Sorted (lead-of b) b
+unfolding marks
+sorted b h =
+    record {
+      white = agree is-whitespace (# WHITESPACE) refl b h;
+      quote = agree (λ (b : ℕ). eqb b 34) (# STRING-LIT) refl b h;
+      digit = agree is-digit (# INTEGER-LIT) refl b h;
+      name = agree is-ident-start (# IDENT) refl b h;
+      dash = not-true _ (below-at (λ (b : ℕ). not (eqb b 45 && ltb (lead-of b) BEGINS-OTHERS)) 256 refl b h);
+    }
 
 module _ (s : List ℕ) (at k : ℕ) (h : Begins s at k) where
   -- the byte, as the definition of a token looks at it
   pub first-byte : getD s at 0 ≡ peek (drop at s) 0
   first-byte = ap (λ (bs : List ℕ). getD bs 0 0) (sym (drop-cons s at 0 (h .inside)))
 
-  -- what all bytes that say k have
-  says : (g : ℕ → Bool) → below (λ (b : ℕ). not (eqb (lead-of b) k) || g b) 256 ≡ true → g (peek (drop at s) 0) ≡ true
-  says g t =
-      ap g (sym first-byte)
-      ∙ all-bytes (λ (b : ℕ). eqb (lead-of b) k) g t (getD s at 0) (h .byte) (eq-eqb (lead-of (getD s at 0)) k (h .leads))
+  first-sorted : Sorted k (peek (drop at s) 0)
+  first-sorted = subst (Sorted k) first-byte (subst (λ (j : ℕ). Sorted j (getD s at 0)) (h .leads) (sorted (getD s at 0) (h .byte)))
 
-  says-not : (g : ℕ → Bool) → below (λ (b : ℕ). not (eqb (lead-of b) k) || not (g b)) 256 ≡ true → g (peek (drop at s) 0) ≡ false
-  says-not g t = not-true (g (peek (drop at s) 0)) (says (λ (b : ℕ). not (g b)) t)
-
-  -- a run of bytes to which all that say k belong goes on from the next byte
-  pub run-on : (g : ℕ → Bool) → below (λ (b : ℕ). not (eqb (lead-of b) k) || g b) 256 ≡ true → run-end g s (at + 1) - at ≡ run g (drop at s)
-  run-on g t = ap (λ (e : ℕ). e - at) (sym (run-more g s at (h .inside) (ap g first-byte ∙ says g t))) ∙ run-rest g s at
+  -- a run to which the byte belongs goes on from the next one
+  run-on : (g : ℕ → Bool) → g (peek (drop at s) 0) ≡ true → run-end g s (at + 1) - at ≡ run g (drop at s)
+  run-on g t = ap (λ (e : ℕ). e - at) (sym (run-more g s at (h .inside) (ap g first-byte ∙ t))) ∙ run-rest g s at
 
 -- THE SORTS ------------------------------------------------------------------------------------------------------------
 
 module _ (s : List ℕ) (at : ℕ) where
   pub white-token : Begins s at (# WHITESPACE) → token (# WHITESPACE) (run-end is-whitespace s (at + 1) - at) ≡ token-of (drop at s)
-  unfolding token-of marks
-  white-token h = ap (token (# WHITESPACE)) (run-on s at _ h is-whitespace refl) ∙ rw (says s at _ h is-whitespace refl) refl
+  unfolding token-of
+  white-token h =
+      let z = first-sorted s at _ h in
+      ap (token (# WHITESPACE)) (run-on s at _ h is-whitespace (z .white)) ∙ rw (z .white) refl
 
   pub string-token : Begins s at (# STRING-LIT) → token (# STRING-LIT) (string-of (drop at s) .len) ≡ token-of (drop at s)
-  unfolding token-of marks
+  unfolding token-of
   string-token h =
-      rw (says-not s at _ h is-whitespace refl, says-not s at _ h (λ (b : ℕ). eqb b 45) refl, says s at _ h (λ (b : ℕ). eqb b 34) refl) refl
+      let z = first-sorted s at _ h in
+      rw (z .white, sym (and-true (eqb (peek (drop at s) 0) 45)) ∙ z .dash, z .quote) refl
 
   pub digits-token : Begins s at (# INTEGER-LIT) → number-token (number-of (drop at s)) ≡ token-of (drop at s)
-  unfolding token-of marks
+  unfolding token-of
   digits-token h =
-      rw (
-        says-not s at _ h is-whitespace refl,
-        says-not s at _ h (λ (b : ℕ). eqb b 45) refl,
-        says-not s at _ h (λ (b : ℕ). eqb b 34) refl,
-        says s at _ h is-digit refl,
-      ) refl
+      let z = first-sorted s at _ h in
+      rw (z .white, sym (and-true (eqb (peek (drop at s) 0) 45)) ∙ z .dash, z .quote, z .digit) refl
 
   pub word-token : Begins s at (# IDENT) → word-of (drop at s) ≡ token-of (drop at s)
-  unfolding token-of marks
+  unfolding token-of
   word-token h =
-      rw (
-        says-not s at _ h is-whitespace refl,
-        says-not s at _ h (λ (b : ℕ). eqb b 45) refl,
-        says-not s at _ h (λ (b : ℕ). eqb b 34) refl,
-        says-not s at _ h is-digit refl,
-        says s at _ h is-ident-start refl,
-      ) refl
+      let z = first-sorted s at _ h in
+      rw (z .white, sym (and-true (eqb (peek (drop at s) 0) 45)) ∙ z .dash, z .quote, z .digit, z .name) refl
 
   pub digit-run : Begins s at (# INTEGER-LIT) → run-end is-digit s (at + 1) - at ≡ run is-digit (drop at s)
-  unfolding marks
-  digit-run h = run-on s at _ h is-digit refl
+  digit-run h = run-on s at _ h is-digit (first-sorted s at _ h .digit)
 
-  pub digit-word-run : Begins s at (# INTEGER-LIT) → run-end is-ident-continue s (at + 1) - at ≡ run is-ident-continue (drop at s)
-  unfolding marks
-  digit-word-run h = run-on s at _ h is-ident-continue refl
-
-  pub word-run : Begins s at (# IDENT) → run-end is-ident-continue s (at + 1) - at ≡ run is-ident-continue (drop at s)
-  unfolding marks
-  word-run h = run-on s at _ h is-ident-continue refl
+  -- a byte that says k, a name's or a number's, belongs to a word
+  pub word-run : (k : ℕ) → Begins s at k → (eqb k (# IDENT) || eqb k (# INTEGER-LIT)) ≡ true → run-end is-ident-continue s (at + 1) - at ≡ run is-ident-continue (drop at s)
+  word-run k h t = let z = first-sorted s at k h in run-on s at k h is-ident-continue ((λ i. z .name i || z .digit i) ∙ t)
 
 -- COMMENTS -------------------------------------------------------------------------------------------------------------
 
@@ -128,10 +130,7 @@ token-is-mark bs e f =
 module _ (s : List ℕ) (at k : ℕ) (h : Begins s at k) (o : Other k) where
   -- all bytes begin a mark but those that say one of the four sorts
   pub other-begins-mark : begins-mark (peek (drop at s) 0) ≡ true
-  unfolding marks
   other-begins-mark =
-      let b = getD s at 0 in
-      let sorted : ℕ → Bool = λ (k : ℕ). not ((eqb k (# WHITESPACE) || eqb k (# IDENT)) || (eqb k (# INTEGER-LIT) || eqb k (# STRING-LIT))) in
-      let t : sorted (lead-of b) ≡ true =
-      ap sorted (h .leads) ∙ ap not (or-neither _ _ (or-neither _ _ (o .no-space) (o .no-name)) (or-neither _ _ (o .no-number) (o .no-string))) in
-      ap begins-mark (sym (first-byte s at k h)) ∙ all-bytes (λ (b : ℕ). sorted (lead-of b)) begins-mark refl b (h .byte) t
+      let z = first-sorted s at k h in
+      (λ i. not ((z .white i || z .quote i) || (z .digit i || z .name i)))
+      ∙ ap not (or-neither _ _ (or-neither _ _ (o .no-space) (o .no-string)) (or-neither _ _ (o .no-number) (o .no-name)))

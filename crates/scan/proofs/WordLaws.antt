@@ -1,7 +1,7 @@
 -- Words: one that ends where its run does, and the bound before which each word ends. Assumes nothing.
 use Prim.Native.Nat.{ℕ, zero, suc, _+_, _-_, _≤_, _<_}
 use native.Mathlib.Omega.{arith}
-use mathlib.Core.Path.{_≡_, sym, ap, _∙_}
+use mathlib.Core.Path.{_≡_, refl, sym, ap, _∙_}
 use mathlib.Core.Bool.{true, false, cond}
 use mathlib.Core.List.{List}
 use mathlib.Core.Logic.{⊎-elim}
@@ -21,7 +21,7 @@ pub word-is : (s : List ℕ) (at e k : ℕ) → Begins s at (# IDENT) → e ≡ 
     token k (e - at) ≡ token-of (drop at s)
 unfolding word-of
 word-is s at e k h q r =
-    let n : e - at ≡ run is-ident-continue (drop at s) = ap (λ (x : ℕ). x - at) q ∙ word-run s at h in
+    let n : e - at ≡ run is-ident-continue (drop at s) = ap (λ (x : ℕ). x - at) q ∙ word-run s at _ h refl in
     (λ j. token ((r ∙ ap (λ (m : ℕ). kind-of-word (take m (drop at s))) n) j) (n j)) ∙ word-token s at h
 
 -- THE BOUND ------------------------------------------------------------------------------------------------------------

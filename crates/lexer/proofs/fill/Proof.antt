@@ -1,12 +1,8 @@
--- Filling words, one token at a turn (FillLaws). The tables lent are the constants, by computation. Assumes nothing.
+-- Filling words, one token at a turn (FillLaws). Assumes nothing.
 use Prim.Native.Nat.{_-_}
-use mathlib.Core.Path.{refl, sym, subst}
+use mathlib.Core.Path.{sym, subst}
 use native.Mathlib.Omega.{arith}
 use lib.ListN.{length}
-use Rattle.aadl.specs.Words.{words, table}
-use Rattle.aadl.specs.Tokens.{marks}
-use Rattle.keywords.specs.Tables.{candidate}
-use Rattle.classes.specs.Classes.{lead-table, class-table}
 use Rattle.scan.specs.Places.{Bounds}
 use Rattle.scan.proofs.WordLaws.{gap-bounds}
 use Rattle.lexer.proofs.FillLaws.{Filling, filling-starts, filling-more, filling-full, filling-ends, Fitting, token-fits}
@@ -20,26 +16,23 @@ Inv-loop s tokens₀ leads classes letters starts lengths kinds slots bound at�
 abbrev μ-loop : tie.MeasureT-loop
 μ-loop s tokens₀ leads classes letters starts lengths kinds slots bound at₀ n₀ tokens at n = length s - at
 
-word-bound-requires : tie.Need-word-bound-requires Inv-loop μ-loop
-unfolding marks class-table
-word-bound-requires c κs = refl
-
 returns : tie.Need-returns Inv-loop μ-loop
 returns c = filling-full (c .before .before .loop .inv) (search needs) (c .if1 .taken)
 
 scan-token-requires : tie.Need-scan-token-requires Inv-loop μ-loop
-unfolding words table candidate marks lead-table class-table
-scan-token-requires c κs = (
-  search needs,
-  subst (Bounds (c .before .before .before .before .before .before .before .before .before .before .before .before .before .before .args .s .now)) (sym (c .before .before .before .before .before .before .before .before .before .before .word-bound .ensures)) (gap-bounds _ _ (omega arith)),
-  refl,
-  refl,
-  record { letters-lent = refl; starts-lent = refl; lengths-lent = refl; kinds-lent = refl; slots-lent = refl },
-)
+scan-token-requires c κs =
+    let bound = c .before .before .before .before .before .before .before .before .before .before in
+    let made = bound .before .before .before .before .before .before .before in (
+      search needs,
+      subst (Bounds (made .before .before .before .before .before .args .s .now)) (sym (bound .word-bound .ensures)) (gap-bounds _ _ (omega arith)),
+      made .before .before .lead-table .ensures,
+      made .before .class-table .ensures,
+      made .word-tables .ensures,
+    )
 
 -- the token that was found fits its word
-fits : (q : tie.After-scan-token Inv-loop μ-loop) → Fitting (q .before .before .before .before .before .before .before .before .before .before .before .before .before .before .before .args .s .now) (q .before .before .before .before .before .before .before .before .before .before .loop .at) (q .scan-token .result)
-fits q = token-fits (q .before .before .before .before .before .before .before .before .before .before .before .before .before .before .before .args .s .now) (q .before .before .before .before .before .before .before .before .before .before .loop .at) (q .scan-token .result) (search needs) (q .scan-token .ensures)
+fits : (q : tie.After-scan-token Inv-loop μ-loop) → Fitting (q .before .before .before .before .before .before .before .before .before .before .before .before .before .before .before .before .before .before .before .before .before .before .before .args .s .now) (q .before .before .before .before .before .before .before .before .before .before .loop .at) (q .scan-token .result)
+fits q = token-fits (q .before .before .before .before .before .before .before .before .before .before .before .before .before .before .before .before .before .before .before .before .before .before .before .args .s .now) (q .before .before .before .before .before .before .before .before .before .before .loop .at) (q .scan-token .result) (search needs) (q .scan-token .ensures)
 
 loop-again : tie.Need-loop-again Inv-loop μ-loop
 loop-again c = filling-more (c .before .before .before .before .before .before .before .before .before .before .loop .inv) (c .scan-token .result) (search needs) (search needs) (c .scan-token .ensures)
@@ -53,7 +46,10 @@ fill-spec =
     (tie.spec
     Inv-loop
     μ-loop
-    word-bound-requires
+    (λ c κs. tt)
+    (λ c κs. tt)
+    (λ c κs. tt)
+    (λ c κs. c .before .before .before .before .before .before .before .class-table .ensures)
     (λ c. filling-starts _ _)
     (λ c. c .before .before .loop .inv .same)
     returns
@@ -61,9 +57,9 @@ fill-spec =
     (λ c. let t = fits c in omega arith)
     (λ c. let t = fits c in omega arith)
     (λ c. let t = fits c in omega arith)
+    (λ c. record { fits = omega (arith, c .before .before .before .before .before .before .before .before .before .before .loop .inv .room, c .before .before .before .before .before .before .before .before .before .before .before .before .before .before .before .before .before .before .before .before .before .before .before .good .1 .0) })
     (λ c. search needs)
-    (λ c. search needs)
-    (λ c. search needs)
+    (λ c. record { fits = omega (arith, c .before .before .before .before .before .before .before .before .before .before .loop .inv .room, c .before .before .before .before .before .before .before .before .before .before .before .before .before .before .before .before .before .before .before .before .before .before .before .good .1 .0) })
     (λ c. let t = fits c in omega arith)
     (λ c. let t = fits c in omega arith)
     loop-again

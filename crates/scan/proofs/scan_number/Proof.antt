@@ -17,7 +17,7 @@ use Rattle.aadl.proofs.TokenBounds.{inside, exponent-end-upto, based-upto, deci
 use Rattle.cursor.specs.declared.Window.{Window}
 use Rattle.classes.specs.Classes.{member}
 use Rattle.scan.specs.Inner.{number-token}
-use Rattle.scan.proofs.FirstByte.{first-byte, digits-token, digit-run, digit-word-run}
+use Rattle.scan.proofs.FirstByte.{first-byte, digits-token, digit-run, word-run}
 use Rattle.scan.proofs.NumberCases.{Digits, number, c-style, c-style-number, based-number, dotted-number, exponent-number, plain-number}
 use borrow.Author.Needs.{needs}
 use Rattle.scan.proofs.scan_number.Statement.{statement}
@@ -62,20 +62,16 @@ whole q =
     let count = ap (λ (e : ℕ). e - at q) (q .before .before .before .run-end .ensures .0) ∙ digit-run (text q) (at q) h in
     ap (λ (n : ℕ). number-token (number-from (drop (at q) (text q)) n)) count ∙ digits-token (text q) (at q) h
 
--- C-STYLE --------------------------------------------------------------------------------------------------------------
-
 returns : tie.Need-returns
 unfolding member
 returns c =
     let q = c .before .before .before in
     let h = q .before .before .before .before .before .pre .0 in
     let r = c .before .run-end2 in
-    let e = ap (λ (e : ℕ). e - at q) (r .ensures .0) ∙ digit-word-run (text q) (at q) h in
+    let e = ap (λ (e : ℕ). e - at q) (r .ensures .0) ∙ word-run (text q) (at q) _ h refl in
     c .token .ensures
     ∙ c-style-number (digits q) (tested q ∙ c .before .before .if1 .taken) (r .result - at q) e
     ∙ whole q
-
--- WITH A BASE ----------------------------------------------------------------------------------------------------------
 
 hash : (q : tie.Then2) → end (q .before .before) + 1 ≤ length (text (q .before .before))
 hash q = stands (q .before .before) (λ (b : ℕ). eqb b 35) refl (eq-eqb _ 35 (q .if2 .taken))
@@ -89,8 +85,6 @@ returns-2 c =
     c .token2 .ensures
     ∙ based-number (digits q) (tested q ∙ q1 .if1 .left) (eq-eqb _ 35 (q2 .if2 .taken)) (b .result) (b .ensures)
     ∙ whole q
-
--- WITH A POINT ---------------------------------------------------------------------------------------------------------
 
 point : (q : tie.Then3) → end (q .before .before .before) + 1 ≤ length (text (q .before .before .before))
 point q =
@@ -108,8 +102,6 @@ returns-3 c =
     c .token3 .ensures
     ∙ dotted-number (digits q) (tested q ∙ q1 .if1 .left) (ne-eqb _ 35 (q2 .if2 .left)) (q3 .if3 .taken) (e .result) (e .ensures ∙ ap (exponent-end (text q)) (c .before .before .run-end3 .ensures .0))
     ∙ whole q
-
--- WITH AN EXPONENT, OR PLAIN -------------------------------------------------------------------------------------------
 
 returns-4 : tie.Need-returns-4
 unfolding member
