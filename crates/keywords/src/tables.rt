@@ -1,6 +1,6 @@
 // The table of words by columns, rows in the order of the kinds: the letters of a word stand in LETTERS from STARTS on, LENGTHS of
 // them, and its kind in KINDS; SLOTS has the one row that a word with a given hash can be in. Equal to the columns of
-// specs/Tables.antt, by the proof of `from_keyword`.
+// specs/Tables.antt, by the proof of `word_tables`.
 
 // The letters of the eighty-one words end to end.
 pub const LETTERS: [u8; 510] =

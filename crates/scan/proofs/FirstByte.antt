@@ -54,6 +54,10 @@ module _ (s : List ℕ) (at k : ℕ) (h : Begins s at k) where
   first-sorted : Sorted k (peek (drop at s) 0)
   first-sorted = subst (Sorted k) first-byte (subst (λ (j : ℕ). Sorted j (getD s at 0)) (h .leads) (sorted (getD s at 0) (h .byte)))
 
+  -- what says no mark that others begin with is no `-`
+  no-dash : ltb k BEGINS-OTHERS ≡ true → eqb (peek (drop at s) 0) 45 ≡ false
+  no-dash t = let d = eqb (peek (drop at s) 0) 45 in sym (and-true d) ∙ ap (λ (u : Bool). d && u) (sym t) ∙ first-sorted .dash
+
   -- a run to which the byte belongs goes on from the next one
   run-on : (g : ℕ → Bool) → g (peek (drop at s) 0) ≡ true → run-end g s (at + 1) - at ≡ run g (drop at s)
   run-on g t = ap (λ (e : ℕ). e - at) (sym (run-more g s at (h .inside) (ap g first-byte ∙ t))) ∙ run-rest g s at
@@ -71,19 +75,19 @@ module _ (s : List ℕ) (at : ℕ) where
   unfolding token-of
   string-token h =
       let z = first-sorted s at _ h in
-      rw (z .white, sym (and-true (eqb (peek (drop at s) 0) 45)) ∙ z .dash, z .quote) refl
+      rw (z .white, no-dash s at _ h refl, z .quote) refl
 
   pub digits-token : Begins s at (# INTEGER-LIT) → number-token (number-of (drop at s)) ≡ token-of (drop at s)
   unfolding token-of
   digits-token h =
       let z = first-sorted s at _ h in
-      rw (z .white, sym (and-true (eqb (peek (drop at s) 0) 45)) ∙ z .dash, z .quote, z .digit) refl
+      rw (z .white, no-dash s at _ h refl, z .quote, z .digit) refl
 
   pub word-token : Begins s at (# IDENT) → word-of (drop at s) ≡ token-of (drop at s)
   unfolding token-of
   word-token h =
       let z = first-sorted s at _ h in
-      rw (z .white, sym (and-true (eqb (peek (drop at s) 0) 45)) ∙ z .dash, z .quote, z .digit, z .name) refl
+      rw (z .white, no-dash s at _ h refl, z .quote, z .digit, z .name) refl
 
   pub digit-run : Begins s at (# INTEGER-LIT) → run-end is-digit s (at + 1) - at ≡ run is-digit (drop at s)
   digit-run h = run-on s at _ h is-digit (first-sorted s at _ h .digit)
