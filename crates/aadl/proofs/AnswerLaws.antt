@@ -1,10 +1,9 @@
 -- The answers case by case: the first of the checks whose case holds refuses, and what a lent buffer then holds. Each is one turn of
 -- `checked`, for whatever checks follow. Assumes nothing.
-use Prim.Native.Nat.{ℕ, suc, _≤_, _<_}
+use Prim.Native.Nat.{ℕ, _≤_, _<_}
 use mathlib.Core.Path.{_≡_, refl}
 use mathlib.Core.List.{List, [], _++_}
 use lib.ListN.{length, take, drop, replicate}
-use lib.Dec.{eqb·suc-zero}
 use borrow.Author.Tests.{lt-ltb, le-ltb, eq-eqb, ne-eqb}
 use Rattle.aadl.specs.declared.Answer.{Answer}
 use Rattle.aadl.specs.Limits.{Limits}
@@ -14,31 +13,32 @@ use Rattle.aadl.specs.Answers.{Check, text-checks, refused, checked, ans
 
 -- The checks of both calls, with further ones cs, and the answer a where nothing is refused.
 module _ (limits : Limits) (text : List ℕ) (m : ℕ) (cs : List Check) (a : Answer) where
-  pub too-long : limits .bytes < length text → checked (text-checks limits text m ++ cs) a ≡ refused 1 (limits .bytes)
+  pub too-long : limits .bytes < length text → checked refused (text-checks limits text m ++ cs) a ≡ refused 1 (limits .bytes)
   too-long h = rw (lt-ltb (limits .bytes) (length text) h) refl
 
   module _ (h : length text ≤ limits .bytes) where
-    pub not-utf8 : (ill-formed text ≡ length text → ⊥) → checked (text-checks limits text m ++ cs) a ≡ refused 2 (ill-formed text)
+    pub not-utf8 : (ill-formed text ≡ length text → ⊥) → checked refused (text-checks limits text m ++ cs) a ≡ refused 2 (ill-formed text)
     not-utf8 n = rw (le-ltb (limits .bytes) (length text) h, ne-eqb (ill-formed text) (length text) n) refl
 
     module _ (g : ill-formed text ≡ length text) where
-      pub no-word-left : m < length (tokens text) → checked (text-checks limits text m ++ cs) a ≡ refused 3 (lengths (take m (tokens text)))
+      pub no-word-left : m < length (tokens text) → checked refused (text-checks limits text m ++ cs) a ≡ refused 3 (lengths (take m (tokens text)))
       no-word-left l =
           rw (le-ltb (limits .bytes) (length text) h, eq-eqb (ill-formed text) (length text) g, lt-ltb m (length (tokens text)) l) refl
 
-      pub text-passes : length (tokens text) ≤ m → checked (text-checks limits text m ++ cs) a ≡ checked cs a
+      pub text-passes : length (tokens text) ≤ m → checked refused (text-checks limits text m ++ cs) a ≡ checked refused cs a
       text-passes l =
           rw (le-ltb (limits .bytes) (length text) h, eq-eqb (ill-formed text) (length text) g, le-ltb m (length (tokens text)) l) refl
 
 -- The tokens-only call has no further checks.
 pub tokens-answer-is : (limits : Limits) (text : List ℕ) (m : ℕ) →
-    tokens-answer limits text m ≡ checked (text-checks limits text m ++ []) (answered (length (tokens text)) 0 0)
+    tokens-answer limits text m ≡ checked refused (text-checks limits text m ++ []) (answered (length (tokens text)) 0 0)
 unfolding tokens-answer
 tokens-answer-is limits text m = refl
 
-pub left-refused : (n p : ℕ) (ws old : List ℕ) → left-in (refused (suc n) p) ws old ≡ replicate (length old) 0
+-- After any refusal the words are zero.
+pub left-by-refusal : (a : Answer) (ws old : List ℕ) → (a .number ≡ 0 → ⊥) → left-in a ws old ≡ replicate (length old) 0
 unfolding left-in
-left-refused n p ws old = rw (eqb·suc-zero n) refl
+left-by-refusal a ws old f = rw (ne-eqb (a .number) 0 f) refl
 
 pub left-answered : (t k e : ℕ) (ws old : List ℕ) → left-in (answered t k e) ws old ≡ ws ++ drop (length ws) old
 unfolding left-in

@@ -21,9 +21,6 @@ module _ {A : Type 0} (Q : A → Type 0) where
   pub cond-first : (t : Bool) (a b : A) → Q (cond t a b) → t ≡ true → Q a
   cond-first t a b q e = rw e at q
 
-  pub cond-second : (t : Bool) (a b : A) → Q (cond t a b) → t ≡ false → Q b
-  cond-second t a b q e = rw e at q
-
   -- Two choices by the same test are equal if their cases are, where the case taken has what is known of the first choice.
   pub cond-same : (t t′ : Bool) → t′ ≡ t → (a b a′ b′ : A) → (t ≡ true → Q a → a′ ≡ a) → (t ≡ false → Q b → b′ ≡ b) → Q (cond t a b) →
       cond t′ a′ b′ ≡ cond t a b

@@ -1,6 +1,6 @@
 -- Two texts p ++ x and p ++ y, where p ends at a token boundary of the first and y is meek: the tokens before the boundary are the same in
 -- both, and the second has a boundary there too. By induction over p, passing over bytes as the definition of tokens does. Assumes nothing.
-use Prim.Native.Nat.{ℕ, zero, suc, _+_, _-_, _≤_, zero-le, suc-le-suc}
+use Prim.Native.Nat.{ℕ, zero, suc, _-_, _≤_, zero-le, suc-le-suc}
 use native.Mathlib.Omega.{arith}
 use mathlib.Core.Path.{_≡_, refl, sym, ap, ap₂, subst, _∙_}
 use mathlib.Core.List.{List, [], _∷_, _++_}

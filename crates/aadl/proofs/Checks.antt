@@ -1,49 +1,43 @@
--- Which check refuses: none, and each case is false; or the first whose case holds, whatever checks follow. By induction over the
--- checks. Assumes nothing.
-use Prim.Native.Nat.{ℕ, _≤_}
-use native.Mathlib.Omega.{arith}
+-- Checks one by one: what the failing of each says of the one with a number, and that checks which fail leave the answer to those that
+-- follow, while one whose case holds refuses whatever follows. By induction over the checks. Assumes nothing.
+use Prim.Native.Nat.{ℕ}
 use mathlib.Core.Path.{_≡_, refl}
-use mathlib.Core.Bool.{true, false}
+use mathlib.Core.Bool.{Bool, true, false, _&&_, cond}
 use mathlib.Core.List.{List, [], _∷_, _++_}
-use Rattle.aadl.specs.declared.Answer.{Answer}
-use Rattle.aadl.specs.Limits.{Limits}
-use Rattle.aadl.specs.Answers.{Check, check, checked, text-checks, section-checks}
+use lib.Dec.{leb, eqb}
+use Rattle.aadl.specs.Answers.{Check, check, checked}
 use Rattle.aadl.proofs.Lists.{Each}
 
--- a check refuses by a number that is not 0; its case does not hold
-abbrev pub Numbered : Check → Type 0
-Numbered (check n case place) = n ≡ 0 → ⊥
-
+-- the check's case does not hold
 abbrev pub Fails : Check → Type 0
 Fails (check n case place) = case ≡ false
 
-pub none-refuses : (cs : List Check) (a : Answer) → Each Numbered cs → checked cs a .number ≡ 0 → Each Fails cs
-none-refuses [] a h e = tt
-none-refuses (check n true p ∷ cs) a h e = absurd (h .0 e)
-none-refuses (check n false p ∷ cs) a h e = (refl, none-refuses cs a (h .1) e)
+-- the case of the check with a number
+abbrev pub case-of : (number : ℕ) → List Check → Bool
+case-of k [] = false
+case-of k (check n case place ∷ cs) = cond (eqb n k) case (case-of k cs)
 
-pub checks-pass : (cs ds : List Check) (a : Answer) → Each Fails cs → checked (cs ++ ds) a ≡ checked ds a
-checks-pass [] ds a f = refl
-checks-pass (check n case p ∷ cs) ds a f = rw (f .0) (checks-pass cs ds a (f .1))
+-- So a new check, wherever it stands, changes no use of this.
+pub fails-by : (number : ℕ) (cs : List Check) → Each Fails cs → case-of number cs ≡ false
+fails-by k [] f = refl
+fails-by k (check n case place ∷ cs) f = go (eqb n k) (fails-by k cs (f .1))
+  where
+    go : (t : Bool) → case-of k cs ≡ false → cond t case (case-of k cs) ≡ false
+    go true h = f .0
+    go false h = h
 
-pub none-refused : (cs : List Check) (a : Answer) → Each Fails cs → checked cs a ≡ a
-none-refused [] a f = refl
-none-refused (check n case p ∷ cs) a f = rw (f .0) (none-refused cs a (f .1))
+-- No check has the number 0, which says that nothing is refused, nor one of more than a byte: decided by computing.
+abbrev pub numbered : List Check → Bool
+numbered [] = true
+numbered (check n case place ∷ cs) = (leb 1 n && leb n 255) && numbered cs
 
-pub first-refuses : (cs ds : List Check) (a b : Answer) → a .number ≡ 0 → (checked cs a .number ≡ 0 → ⊥) → checked (cs ++ ds) b ≡ checked cs a
-first-refuses [] ds a b e f = absurd (f e)
-first-refuses (check n true p ∷ cs) ds a b e f = refl
-first-refuses (check n false p ∷ cs) ds a b e f = first-refuses cs ds a b e f
+module _ {A : Type 0} (refusing : (number place : ℕ) → A) where
+  pub checks-pass : (cs ds : List Check) (a : A) → Each Fails cs → checked refusing (cs ++ ds) a ≡ checked refusing ds a
+  checks-pass [] ds a f = refl
+  checks-pass (check n case p ∷ cs) ds a f = rw (f .0) (checks-pass cs ds a (f .1))
 
--- 01's checks have the numbers 1 to 6
-not-zero : (n : ℕ) → 1 ≤ n → n ≡ 0 → ⊥
-not-zero n h e = omega (arith, h, e)
-
-pub text-numbered : (limits : Limits) (text : List ℕ) (m : ℕ) → Each Numbered (text-checks limits text m)
-text-numbered limits text m = (not-zero 1 (omega arith), (not-zero 2 (omega arith), (not-zero 3 (omega arith), tt)))
-
-pub section-numbered : (limits : Limits) (text : List ℕ) (m n : ℕ) → Each Numbered (text-checks limits text m ++ section-checks limits text n)
-section-numbered limits text m n = (
-  not-zero 1 (omega arith),
-  (not-zero 2 (omega arith), (not-zero 3 (omega arith), (not-zero 4 (omega arith), (not-zero 5 (omega arith), (not-zero 6 (omega arith), tt))))),
-)
+  pub first-refuses : (number : A → ℕ) (cs ds : List Check) (a b : A) → number a ≡ 0 → (number (checked refusing cs a) ≡ 0 → ⊥) →
+      checked refusing (cs ++ ds) b ≡ checked refusing cs a
+  first-refuses number [] ds a b e f = absurd (f e)
+  first-refuses number (check n true p ∷ cs) ds a b e f = refl
+  first-refuses number (check n false p ∷ cs) ds a b e f = first-refuses number cs ds a b e f

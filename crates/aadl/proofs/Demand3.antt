@@ -7,19 +7,19 @@ use native.Mathlib.Nat.{not-suc-le-zero}
 use native.Mathlib.Omega.{arith}
 use mathlib.Core.Path.{_≡_, refl, sym, ap, subst, _∙_}
 use mathlib.Core.Logic.{_↔_, _⊎_, ⊎-elim}
-use mathlib.Core.Bool.{Bool, true, false, or-false}
+use mathlib.Core.Bool.{true, false}
 use mathlib.Core.List.{List, [], _∷_, map}
 use lib.ListN.{length, length-append, length-map}
-use Rattle.predictive.specs.Forest.{Forest, tree, leaves, Fault}
+use Rattle.predictive.specs.Forest.{Forest, tree, leaves}
 use Rattle.predictive.specs.Grammar.{Derives}
 use Rattle.predictive.specs.Reader.{Result, miss, done, read}
-use Rattle.predictive.specs.Events.{events-of, taken, erring, any-fault, is-nested}
+use Rattle.predictive.specs.Events.{events-of, taken, erring, any-fault, stops}
 use Rattle.predictive.specs.Events
 use Rattle.predictive.specs.Tree.{spell}
 use Rattle.predictive.proofs.Tests.{never}
 use Rattle.predictive.proofs.Forests.{leaves-tree}
 use Rattle.predictive.proofs.Faults.{amiss}
-use Rattle.predictive.proofs.EventLaws.{erring-events, taken-events}
+use Rattle.predictive.proofs.EventLaws.{erring-events, erring-reading, taken-events}
 use Rattle.predictive.proofs.Spell.{spell-events}
 use Rattle.predictive.proofs.Readings.{reading-leaves}
 use Rattle.predictive.proofs.Sound.{sound}
@@ -34,12 +34,6 @@ use Rattle.aadl.proofs.SymbolLaws.{symbols-show-kinds}
 use Rattle.aadl.proofs.Unmarked.{derives-unmarked}
 
 -- WHAT A READING'S EVENTS SAY ------------------------------------------------------------------------------------------
-
--- An Error with a fault that passes the test is among the events just if the reading is amiss by that test.
-erring-reading : (q : Fault → Bool) (r : Result) → erring q (events-of r) ≡ amiss q r
-unfolding events-of erring amiss
-erring-reading q (miss m ys) = or-false (q m)
-erring-reading q (done f ys) = erring-events q f 0
 
 none-left : (ys : List ℕ) → length ys ≤ 0 → ys ≡ []
 none-left [] h = refl
@@ -56,23 +50,24 @@ module _ (limits : Limits) (xs : List ℕ) where
   clean-derived (miss m ys) e c t = never (sym c ∙ erring-reading any-fault (miss m ys))
   clean-derived (done f ys) e c t =
       let s = reading-leaves grammar tables grammar-fine (suc (length xs)) (limits .openers) section section-good xs f ys e in
-      let l : length xs ≡ length (leaves f) + length ys = sym (length-map xs shown) ∙ ap length s ∙ length-append (leaves f) (map shown ys) ∙ ap (λ (n : ℕ). length (leaves f) + n) (length-map ys shown) in
+      let n : length (leaves f) + length (map shown ys) ≡ length (leaves f) + length ys = ap (λ (j : ℕ). length (leaves f) + j) (length-map ys shown) in
+      let l : length xs ≡ length (leaves f) + length ys = sym (length-map xs shown) ∙ ap length s ∙ length-append (leaves f) (map shown ys) ∙ n in
       let rest = none-left ys (omega (arith, l, t, taken-events f 0)) in
       let to-end = subst (λ (zs : List ℕ). read grammar (suc (length xs)) (limits .openers) section xs ≡ done f zs) rest e in
       (f, sound grammar tables grammar-fine (suc (length xs)) (limits .openers) section section-good xs f [] to-end (sym (erring-events any-fault f 0) ∙ c))
 
   -- What is derived is read as its forest, where no opener too many stands.
-  derived-read-or-deep : (f : Forest) → Derived f → (amiss is-nested (reading limits xs) ≡ true) ⊎ (reading limits xs ≡ done f [])
+  derived-read-or-deep : (f : Forest) → Derived f → (amiss stops (reading limits xs) ≡ true) ⊎ (reading limits xs ≡ done f [])
   unfolding reading
   derived-read-or-deep f d =
       derived-read grammar tables grammar-fine section section-good (suc (length xs)) (limits .openers) xs f (omega arith) d
 
-  not-deep : too-deep limits xs ≡ false → amiss is-nested (reading limits xs) ≡ false
+  not-deep : too-deep limits xs ≡ false → amiss stops (reading limits xs) ≡ false
   unfolding too-deep events
-  not-deep n = sym (erring-reading is-nested (reading limits xs)) ∙ n
+  not-deep n = sym (erring-reading stops (reading limits xs)) ∙ n
 
   derived-reading : (f : Forest) → too-deep limits xs ≡ false → Derived f → reading limits xs ≡ done f []
-  derived-reading f n d = ⊎-elim (λ (e : amiss is-nested (reading limits xs) ≡ true). never (sym (not-deep n) ∙ e)) (λ e. e) (derived-read-or-deep f d)
+  derived-reading f n d = ⊎-elim (λ (e : amiss stops (reading limits xs) ≡ true). never (sym (not-deep n) ∙ e)) (λ e. e) (derived-read-or-deep f d)
 
   -- The events of what is derived are its forest's.
   derived-events : (f : Forest) → too-deep limits xs ≡ false → Derived f → events limits xs ≡ Events.events f 0
@@ -121,10 +116,7 @@ clean-exactly limits xs n = (to, from)
         let d : Derives grammar section f xs [] = from-symbols (u .1) in
         let e = derived-events limits xs f n d in
         let l = derived-leaves grammar tables grammar-fine section section-good xs f d in
-        record {
-          no-error = ap (erring any-fault) e ∙ erring-events any-fault f 0 ∙ derived-clean grammar d;
-          all-taken = ap taken e ∙ taken-events f 0 ∙ ap length l ∙ length-map xs shown;
-        }
+        record { no-error = ap (erring any-fault) e ∙ erring-events any-fault f 0 ∙ derived-clean grammar d; all-taken = ap taken e ∙ taken-events f 0 ∙ ap length l ∙ length-map xs shown }
 
 pub spelled-derivation : (limits : Limits) (xs : List ℕ) (t : Forest) → too-deep limits xs ≡ false → Derivation (map shown xs) t → spell (events limits xs) ≡ t
 spelled-derivation limits xs t n d =

@@ -5,8 +5,7 @@ use mathlib.Core.Path.{_≡_, refl}
 use mathlib.Core.Bool.{Bool, true, false}
 use mathlib.Core.List.{List, [], _∷_, _++_}
 use lib.ListN.{getD, replicate}
-use lib.Dec.{eqb}
-use Rattle.predictive.specs.Forest.{Forest, nil, leaf, node, _then_, Fault, message, nested}
+use Rattle.predictive.specs.Forest.{Forest, nil, leaf, node, _then_, message}
 use Rattle.predictive.specs.Events.{start, finish, error, erring, any-fault}
 use Rattle.predictive.specs.Tree.{spell}
 use Rattle.aadl.specs.Limits.{Limits, base}
@@ -19,6 +18,7 @@ use Rattle.aadl.specs.Reading.{events}
 use Rattle.aadl.specs.Answers.{section-answer, answered, refused}
 use Rattle.aadl.specs.Listing.{listing}
 use Rattle.aadl.proofs.Computing.{definitions}
+use Rattle.aadl.proofs.Asides.{is-message}
 
 -- THE STARRED TEXTS ----------------------------------------------------------------------------------------------------
 
@@ -112,10 +112,6 @@ spelled text = spell (events base (symbols text))
 abbrev errs : List ℕ → Bool
 errs text = erring any-fault (events base (symbols text))
 
-abbrev is-8 : Fault → Bool
-is-8 (message m) = eqb m 8
-is-8 nested = false
-
 -- the tree of a section with the one association `A => ..`
 abbrev association-of : Forest → Forest
 association-of rest =
@@ -181,19 +177,11 @@ pub record Preferred : Type 0 where
       (node (# DIRECTION) (leaf (# IN-KW) (leaf (# OUT-KW) nil))
       (leaf (# EVENT-KW) (leaf (# DATA-KW) (leaf (# PORT-KW) (node (# CLASSIFIER-REF) (leaf (# IDENT) nil) nil)))))
   -- B: a lone `virtual` is no Name
-  pub lone-virtual : erring is-8 (events base (symbols (bytes "properties A => classifier (c (x => virtual T));"))) ≡ true
+  pub lone-virtual : erring (is-message 8) (events base (symbols (bytes "properties A => classifier (c (x => virtual T));"))) ≡ true
   -- C: the `in` belongs to the operand, so that no Modes stand
   pub name-after-colons : errs (bytes "properties A => b :: in modes (m);") ≡ true
 
 pub preferred : Preferred
 unfolding definitions
 preferred =
-    record {
-      star-right = refl;
-      star-left = refl;
-      leans-left = refl;
-      negated-sum = refl;
-      longest-forms = refl;
-      lone-virtual = refl;
-      name-after-colons = refl;
-    }
+    record { star-right = refl; star-left = refl; leans-left = refl; negated-sum = refl; longest-forms = refl; lone-virtual = refl; name-after-colons = refl }

@@ -1,7 +1,7 @@
 -- A text whose last token is a SEMICOLON: its last byte is `;`, with a token boundary before it (`split`), and the tokens of a text behind
 -- it are added to its own (`glued-split`). No other token has that kind; `;` is a token of its own whatever follows it, and ends any token
 -- before it. Assumes nothing.
-use Prim.Native.Nat.{ℕ, zero, suc, _+_, _-_, _≤_, _<_, zero-le, suc-le-suc}
+use Prim.Native.Nat.{ℕ, zero, suc, _-_, _≤_, _<_, zero-le, suc-le-suc}
 use Prim.Native.String.{String}
 use native.Mathlib.Nat.{le-of-suc-le-suc, not-suc-le-zero}
 use native.Mathlib.Omega.{arith}

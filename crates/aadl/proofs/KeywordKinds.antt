@@ -21,7 +21,7 @@ use Rattle.aadl.specs.Bytes.{within}
 use Rattle.aadl.specs.Tokens.{token, marks, longest-mark}
 use Rattle.predictive.proofs.Tests.{and-l, and-r}
 use Rattle.aadl.proofs.Bools.{below-at}
-use Rattle.aadl.proofs.Lists.{every, every-at}
+use Rattle.aadl.proofs.Lists.{every}
 
 -- THE TABLE ------------------------------------------------------------------------------------------------------------
 
@@ -41,14 +41,6 @@ table-length = refl
 pub table-lower-case : every (λ (e : Entry). every (within 97 122) (e .word)) table ≡ true
 unfolding table words
 table-lower-case = refl
-
--- the same, for one letter of one word
-pub letter-lower-case : (i j : ℕ) → i < 81 → j < length (word-at i) → (97 ≤ getD (word-at i) j 0) × (getD (word-at i) j 0 ≤ 122)
-letter-lower-case i j h l =
-    let b = getD (word-at i) j 0 in
-    let w = every-at (λ (e : Entry). every (within 97 122) (e .word)) table table-lower-case no-entry i (omega (arith, table-length)) in
-    let e = every-at (within 97 122) (word-at i) w 0 j l in
-    (leb-true 97 b (and-l (leb 97 b) (leb b 122) e), leb-true b 122 (and-r (leb 97 b) (leb b 122) e))
 
 -- one test: every word is found, and at its own place
 pub word-at-kind : (i : ℕ) → i < 81 → kind-of-word (word-at i) ≡ 34 + i

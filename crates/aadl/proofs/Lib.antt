@@ -12,7 +12,10 @@ pub mod SymbolLaws
 pub mod Unmarked
 pub mod Demand3
 pub mod Checks
+pub mod Settled
 pub mod AnswerLaws
+pub mod Refusals
+pub mod Asides
 pub mod EventWords
 pub mod AnswerDerived
 pub mod Computing

@@ -1,24 +1,18 @@
 -- Laws of lists that the libraries lack: a test made at every element, which a closed computation decides, a property of every
 -- element, and what is dropped or read behind the head. Each is proved by induction. Assumes nothing.
-use Prim.Native.Nat.{ℕ, zero, suc, _-_, _≤_, _<_}
-use native.Mathlib.Nat.{le-of-suc-le-suc, not-suc-le-zero}
+use Prim.Native.Nat.{ℕ, zero, suc, _-_, _≤_}
+use native.Mathlib.Nat.{not-suc-le-zero}
 use native.Mathlib.Omega.{arith}
 use mathlib.Core.Path.{_≡_, ap}
 use mathlib.Core.Bool.{Bool, true, _&&_}
 use mathlib.Core.List.{List, [], _∷_}
-use lib.ListN.{length, getD, drop}
-use Rattle.predictive.proofs.Tests.{and-l, and-r}
+use lib.ListN.{getD, drop}
 
 module _ {ℓ} {A : Type ℓ} where
   -- mathlib's `all` does not compute outside its module
   abbrev pub every : (A → Bool) → List A → Bool
   every p [] = true
   every p (x ∷ xs) = p x && every p xs
-
-  pub every-at : (p : A → Bool) (xs : List A) → every p xs ≡ true → (d : A) (i : ℕ) → i < length xs → p (getD xs i d) ≡ true
-  every-at p [] e d i h = absurd (not-suc-le-zero h)
-  every-at p (x ∷ xs) e d zero h = and-l (p x) (every p xs) e
-  every-at p (x ∷ xs) e d (suc i) h = every-at p xs (and-r (p x) (every p xs) e) d i (le-of-suc-le-suc h)
 
   -- every element has the property
   abbrev pub Each : (A → Type 0) → List A → Type 0

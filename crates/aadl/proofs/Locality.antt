@@ -37,13 +37,7 @@ pub token-again : (w r s : List ℕ) → token-of (w ++ r) .len ≡ length w →
 token-again [] r s whole solid closed e = absurd (omega (arith, token-positive r))
 token-again (a ∷ w) r s whole solid closed e =
     token-of-same a w r s (separates-meek r s e)
-    record {
-      ends = omega arith;
-      white = λ f. never (sym solid ∙ ap is-trivia f);
-      comment = λ f. never (sym solid ∙ ap is-trivia f);
-      string = closed;
-      parted = λ l. omega arith;
-    }
+    record { ends = omega arith; white = λ f. never (sym solid ∙ ap is-trivia f); comment = λ f. never (sym solid ∙ ap is-trivia f); string = closed; parted = λ l. omega arith }
 
 -- The same of a number: its kind and length, its base, its inner digits, the closing `#` and the exponent.
 pub number-again : (w r s : List ℕ) → is-digit (peek w 0) ≡ true → number-of (w ++ r) .len ≡ length w → Separates s →
@@ -114,14 +108,4 @@ pub record Needed : Type 0 where
 pub needed : Needed
 unfolding definitions
 needed =
-    record {
-      solid = refl;
-      whole = (refl, refl);
-      words = refl;
-      numbers = refl;
-      marks = refl;
-      characters = (refl, refl);
-      ended = refl;
-      dots = refl;
-      dots-apart = refl;
-    }
+    record { solid = refl; whole = (refl, refl); words = refl; numbers = refl; marks = refl; characters = (refl, refl); ended = refl; dots = refl; dots-apart = refl }

@@ -1,9 +1,9 @@
 -- Laws of runs: a run goes on past a byte of its class, stops at another, and ends with the text; a run from a place on is one of the
 -- bytes from there on. Each is what the definition says of the bytes from the place on. Assumes nothing.
-use Prim.Native.Nat.{ℕ, suc, _+_, _-_, _≤_, _<_}
+use Prim.Native.Nat.{ℕ, _+_, _-_, _≤_, _<_}
 use native.Mathlib.Numerals.{add-one}
 use native.Mathlib.Omega.{arith}
-use mathlib.Core.Path.{_≡_, refl, ap, _∙_}
+use mathlib.Core.Path.{_≡_, refl}
 use mathlib.Core.Bool.{Bool, true, false}
 use mathlib.Core.List.{List, [], _∷_}
 use lib.ListN.{length, drop, drop-of-length-le}
@@ -30,14 +30,6 @@ module _ (p : ℕ → Bool) (bs : List ℕ) (i : ℕ) where
   pub run-rest : run-end p bs i - i ≡ run p (drop i bs)
   unfolding run-end
   run-rest = omega arith
-
--- the same step, k bytes after i
-pub run-more-after : (p : ℕ → Bool) (bs : List ℕ) (i k : ℕ) → i + k < length bs → p (peek bs (i + k)) ≡ true → run-end p bs (i + k) ≡ run-end p bs (i + suc k)
-run-more-after p bs i k h e = run-more p bs (i + k) h e ∙ ap (run-end p bs) (omega arith)
-
-pub run-from-start : (p : ℕ → Bool) (bs : List ℕ) → run-end p bs 0 ≡ run p bs
-unfolding run-end
-run-from-start p bs = omega arith
 
 pub run-none : (p : ℕ → Bool) (bs : List ℕ) → p (peek bs 0) ≡ false → run p bs ≡ 0
 unfolding run

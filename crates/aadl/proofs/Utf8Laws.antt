@@ -1,5 +1,5 @@
--- Laws of UTF-8: a sequence ends within the text; the place of the first ill-formed sequence does too, and it is found step by
--- step. A row of the table that fits is no longer than the bytes; passing over k bytes is dropping them. Assumes nothing.
+-- Laws of UTF-8: a sequence ends within the text; the place of the first ill-formed sequence is found step by step. A row of
+-- the table that fits is no longer than the bytes; passing over k bytes is dropping them. Assumes nothing.
 use Prim.Native.Nat.{ℕ, zero, suc, _+_, _-_, _≤_, zero-le, suc-le-suc}
 use native.Mathlib.Nat.{le-of-suc-le-suc, not-suc-le-zero}
 use native.Mathlib.Omega.{arith}
@@ -7,7 +7,7 @@ use mathlib.Core.Path.{_≡_, refl, ap}
 use mathlib.Core.Bool.{true, _&&_, false≢true}
 use mathlib.Core.List.{List, [], _∷_}
 use lib.ListN.{length, drop}
-use lib.Dec.{leb, eqb}
+use lib.Dec.{leb}
 use borrow.Author.Tests.{eq-eqb, ne-eqb}
 use Rattle.aadl.specs.Utf8.{Range, _to_, table-3-7, fits, fitting, sequence, ill-formed-after, ill-formed}
 use Rattle.predictive.proofs.Tests.{and-r}
@@ -32,18 +32,6 @@ unfolding sequence
 sequence-within bs = fitting-within table-3-7 bs
 
 -- WELL-FORMED TEXT -----------------------------------------------------------------------------------------------------
-
-ill-formed-after-within : (k : ℕ) (bs : List ℕ) → ill-formed-after k bs ≤ length bs
-unfolding ill-formed-after
-ill-formed-after-within zero [] = zero-le
-ill-formed-after-within (suc k) [] = zero-le
-ill-formed-after-within (suc k) (b ∷ bs) = suc-le-suc (ill-formed-after-within k bs)
-ill-formed-after-within zero (b ∷ bs) =
-    cond-has (λ (n : ℕ). n ≤ suc (length bs)) (eqb (sequence (b ∷ bs)) 0) _ _
-    (λ e. zero-le) (λ e. suc-le-suc (ill-formed-after-within (sequence (b ∷ bs) - 1) bs))
-
-pub ill-formed-within : (bs : List ℕ) → ill-formed bs ≤ length bs
-ill-formed-within bs = ill-formed-after-within 0 bs
 
 pub ill-formed-none : (bs : List ℕ) → length bs ≤ 0 → ill-formed bs ≡ 0
 unfolding ill-formed-after

@@ -1,6 +1,6 @@
 -- The six refusals with their cases, places and order, what the two calls answer, and every word of the lent buffers at exit.
 -- Assumes nothing.
-use Prim.Native.Nat.{ℕ, min}
+use Prim.Native.Nat.{ℕ}
 use mathlib.Core.Bool.{Bool, not, cond}
 use mathlib.Core.List.{List, [], _∷_, _++_, map}
 use lib.ListN.{length, take, drop, replicate}
@@ -8,12 +8,13 @@ use lib.Dec.{ltb, eqb}
 use Rattle.predictive.specs.Grammar.{is}
 use Rattle.predictive.specs.Events.{taken}
 use Rattle.aadl.specs.declared.Answer.{Answer}
-use Rattle.aadl.specs.Limits.{Limits, most-events}
+use Rattle.aadl.specs.Limits.{Limits}
 use Rattle.aadl.specs.Kinds.{PROPERTIES-KW, #_}
 use Rattle.aadl.specs.Utf8.{ill-formed}
 use Rattle.aadl.specs.Tokens.{tokens, lengths, token-word}
 use Rattle.aadl.specs.Symbols.{symbols, start-of}
-use Rattle.aadl.specs.Reading.{events, pushed, too-deep, event-word}
+use Rattle.aadl.specs.Encoding.{room, words-of}
+use Rattle.aadl.specs.Reading.{events, pushed, too-deep}
 
 -- A check: its number, its case, and its place, which counts where the case holds.
 pub data Check : Type 0 where
@@ -44,27 +45,33 @@ answered t k e = record { number = 0; place = 0; tokens = t; taken = k; events =
 abbrev pub refused : (number place : ℕ) → Answer
 refused n p = record { number = n; place = p; tokens = 0; taken = 0; events = 0 }
 
--- The first check whose case holds refuses.
-abbrev pub checked : List Check → Answer → Answer
-checked [] a = a
-checked (check n case place ∷ cs) a = cond case (refused n place) (checked cs a)
+-- The first check whose case holds refuses, in a call that refuses by some form of answer; else the answer is a.
+module _ {A : Type 0} (refusing : (number place : ℕ) → A) where
+  abbrev pub checked : List Check → (a : A) → A
+  checked [] a = a
+  checked (check n case place ∷ cs) a = cond case (refusing n place) (checked cs a)
 
 -- "The tokens-only call lends no event words, has 1 to 3 and answers taken and events 0."
 unfoldable pub tokens-answer : Limits → (text : List ℕ) → (lent : ℕ) → Answer
-tokens-answer limits text m = checked (text-checks limits text m) (answered (length (tokens text)) 0 0)
+tokens-answer limits text m = checked refused (text-checks limits text m) (answered (length (tokens text)) 0 0)
 
--- "Of the lent event words only the first 32,768 are used."
+-- What the section call counts where nothing is refused.
+abbrev pub all-answered : Limits → (text : List ℕ) → Answer
+all-answered limits text = answered (length (tokens text)) (taken (events limits (symbols text))) (length (events limits (symbols text)))
+
 unfoldable pub section-answer : Limits → (text : List ℕ) → (lent-tokens lent-events : ℕ) → Answer
 section-answer limits text m n =
-    checked (text-checks limits text m ++ section-checks limits text (min n most-events))
-    (answered (length (tokens text)) (taken (events limits (symbols text))) (length (events limits (symbols text))))
+    checked refused (text-checks limits text m ++ section-checks limits text (room n)) (all-answered limits text)
 
--- A lent buffer at exit: all zero after a refusal; else the words, and then the old contents.
+-- A lent buffer at exit, by the answer's number: all zero after a refusal; else the words, and then the old contents.
+abbrev pub left-by : (number : ℕ) → (words old : List ℕ) → List ℕ
+left-by n ws old = cond (eqb n 0) (ws ++ drop (length ws) old) (replicate (length old) 0)
+
 unfoldable pub left-in : Answer → (words old : List ℕ) → List ℕ
-left-in a ws old = cond (eqb (a .number) 0) (ws ++ drop (length ws) old) (replicate (length old) 0)
+left-in a ws old = left-by (a .number) ws old
 
 abbrev pub token-words : List ℕ → List ℕ
 token-words text = map token-word (tokens text)
 
 abbrev pub event-words : Limits → List ℕ → List ℕ
-event-words limits text = map event-word (events limits (symbols text))
+event-words limits text = words-of (events limits (symbols text))

@@ -6,6 +6,7 @@ pub mod Bytes
 pub mod Tokens
 pub mod Symbols
 pub mod Section
+pub mod Encoding
 pub mod Reading
 pub mod Answers
 pub mod Demand

@@ -9,7 +9,8 @@ use Rattle.predictive.specs.Events.{Event, taken}
 use Rattle.aadl.specs.Limits.{Limits}
 use Rattle.aadl.specs.Words.{bytes}
 use Rattle.aadl.specs.Symbols.{symbols, start-of}
-use Rattle.aadl.specs.Reading.{events, fields}
+use Rattle.aadl.specs.Encoding.{fields}
+use Rattle.aadl.specs.Reading.{events}
 use Rattle.aadl.specs.Answers.{section-answer}
 
 -- A number in decimal digits.

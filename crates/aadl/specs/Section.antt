@@ -296,5 +296,6 @@ firsts Negated = operand-heads
 firsts Operand = operand-heads
 firsts Classifier = ones names
 
+-- "At each opener", refusal 6: "it would be the 65th open one".
 abbrev pub grammar : Grammar
-grammar = record { Rule = Rule; rules = rules; firsts = firsts; shown = shown }
+grammar = record { Rule = Rule; rules = rules; firsts = firsts; shown = shown; deep = 6 }

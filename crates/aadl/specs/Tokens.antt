@@ -1,5 +1,5 @@
 -- 01's 'The token word': every case of a token, defined on the bytes from the token's start on. Assumes nothing.
-use Prim.Native.Nat.{ℕ, zero, suc, _+_, _-_, _*_, _%_, max}
+use Prim.Native.Nat.{ℕ, zero, suc, _+_, _-_, _*_, _/_, _%_, max}
 use Prim.Native.String.{String}
 use mathlib.Core.Bool.{Bool, true, false, not, _&&_, _||_, cond}
 use mathlib.Core.List.{List, [], _∷_}
@@ -154,6 +154,9 @@ token-word t = t .kind * 65536 + t .len
 -- The length in a token word, and the sum of the lengths in words.
 abbrev pub length-in : ℕ → ℕ
 length-in w = w % 65536
+
+abbrev pub kind-in : ℕ → ℕ
+kind-in w = w / 65536 % 256
 
 abbrev pub total : List ℕ → ℕ
 total [] = 0

@@ -13,6 +13,12 @@ pub struct Quoted {
     pub closed: bool,
 }
 
+// The limits of a call: most bytes of a text, and most openers that stand open at once.
+pub struct Limits {
+    pub bytes: usize,
+    pub openers: usize,
+}
+
 // What a call answers: the refusal's number and place (0 and 0 for none), the tokens, the non-trivia tokens taken, the events.
 pub struct Answer {
     pub number: u32,

@@ -1,6 +1,6 @@
--- Many bytes at a time: where none of the next n bytes is sought, a run of bytes that are not goes on over all of them; and
--- bytes below 128 are well-formed one by one. By induction over the bytes. Assumes nothing.
-use Prim.Native.Nat.{ℕ, zero, suc, _+_, _≤_, _<_}
+-- Many bytes at a time: where none of the next n bytes is sought, a run of bytes that are not goes on over all of them, so that whole
+-- chunks are passed one by one; and bytes below 128 are well-formed one by one. By induction over the bytes. Assumes nothing.
+use Prim.Native.Nat.{ℕ, zero, suc, _+_, _*_, _/_, _≤_, _<_, zero-le, suc-le-suc}
 use native.Mathlib.Nat.{zero-add, suc-add, add-assoc, le-of-suc-le-suc, not-suc-le-zero}
 use native.Mathlib.Numerals.{add-one}
 use native.Mathlib.Omega.{arith}
@@ -12,10 +12,12 @@ use lib.Seq.{drop-cons, drop-drop}
 use lib.Dec.{leb, eqb}
 use borrow.Author.Tests.{leb-false, leb-true, le-leb, eq-eqb, ne-eqb, eqb-true, eqb-false}
 use Rattle.predictive.specs.Grammar.{has}
-use Rattle.predictive.proofs.Tests.{and-both, or-l, or-r}
+use Rattle.predictive.proofs.Tests.{never, and-both, or-l, or-r}
 use Rattle.aadl.specs.Bytes.{run, run-end}
 use Rattle.aadl.specs.Utf8.{table-3-7, sequence, ill-formed-after, ill-formed}
-use Rattle.classes.specs.Search.{any, sought, unsought, other-than}
+use Rattle.aadl.proofs.Bools.{cond-has}
+use Rattle.aadl.proofs.TokenBounds.{run-within}
+use Rattle.classes.specs.Search.{any, sought, unsought, other-than, chunks-end}
 
 -- TESTS OVER A PART ----------------------------------------------------------------------------------------------------
 
@@ -25,6 +27,10 @@ module _ (p : ℕ → Bool) (bs : List ℕ) (i : ℕ) (f : Bool) where
 
   pub any-end : length bs ≤ i → (f || any p (drop i bs)) ≡ f
   any-end h = rw (drop-of-length-le bs h) (or-false f)
+
+or-rest : (s t : Bool) → (s || t) ≡ true → not s ≡ true → t ≡ true
+or-rest true t e d = never d
+or-rest false t e d = e
 
 -- SKIPPING -------------------------------------------------------------------------------------------------------------
 
@@ -38,12 +44,50 @@ module _ (p : ℕ → Bool) where
       rw (or-l (p b) (any p (take n bs)) e)
       (ap suc (none-run bs n (le-of-suc-le-suc h) (or-r (p b) (any p (take n bs)) e)) ∙ sym (suc-add n (run (λ b. not (p b)) (drop n bs))))
 
-  -- none among the n from place i on
-  pub none-skip : (bs : List ℕ) (i n : ℕ) → i + n ≤ length bs → any p (take n (drop i bs)) ≡ false → run-end (λ b. not (p b)) bs i ≡ run-end (λ b. not (p b)) bs (i + n)
-  unfolding run-end
-  none-skip bs i n h e =
-      ap (λ (k : ℕ). i + k) (none-run (drop i bs) n (omega (arith, length-drop i bs)) e ∙ ap (λ (l : List ℕ). n + run (λ b. not (p b)) l) (drop-drop n i bs))
-      ∙ sym (add-assoc i n (run (λ b. not (p b)) (drop (i + n) bs)))
+  -- one among the first n
+  some-run : (bs : List ℕ) (n : ℕ) → any p (take n bs) ≡ true → run (λ b. not (p b)) bs < n
+  unfolding run
+  some-run bs zero e = never e
+  some-run [] (suc n) e = never e
+  some-run (b ∷ bs) (suc n) e =
+      cond-has (λ (k : ℕ). k < suc n) (not (p b)) _ _ (λ d. suc-le-suc (some-run bs n (or-rest (p b) (any p (take n bs)) e d))) (λ d. suc-le-suc zero-le)
+
+  pub chunk-more : (bs : List ℕ) (i n : ℕ) → n ≡ 16 → i + 16 ≤ length bs → any p (take n (drop i bs)) ≡ false → chunks-end (λ b. not (p b)) bs i ≡ chunks-end (λ b. not (p b)) bs (i + 16)
+  unfolding chunks-end
+  chunk-more bs i n m h e =
+      rw (none-run (drop i bs) n (omega (arith, m, length-drop i bs)) e, drop-drop n i bs, m)
+      (omega arith)
+
+  chunk-none : (bs : List ℕ) (i : ℕ) → run (λ b. not (p b)) (drop i bs) < 16 → chunks-end (λ b. not (p b)) bs i ≡ i
+  unfolding chunks-end
+  chunk-none bs i h = omega (arith, h)
+
+  pub chunk-stop : (bs : List ℕ) (i n : ℕ) → n ≡ 16 → any p (take n (drop i bs)) ≡ true → chunks-end (λ b. not (p b)) bs i ≡ i
+  chunk-stop bs i n m e = chunk-none bs i (omega (arith, m, some-run (drop i bs) n e))
+
+  pub chunk-over : (bs : List ℕ) (i : ℕ) → length bs < i + 16 → chunks-end (λ b. not (p b)) bs i ≡ i
+  chunk-over bs i h = chunk-none bs i (omega (arith, h, length-drop i bs, run-within (λ b. not (p b)) (drop i bs)))
+
+-- a run goes on from each place inside it
+inside-run : (p : ℕ → Bool) (bs : List ℕ) (n : ℕ) → n ≤ run p bs → n + run p (drop n bs) ≡ run p bs
+unfolding run
+inside-run p bs zero h = zero-add (run p bs)
+inside-run p [] (suc n) h = absurd (not-suc-le-zero h)
+inside-run p (b ∷ bs) (suc n) h =
+    cond-has
+    (λ (k : ℕ). suc n ≤ k → suc n + run p (drop n bs) ≡ k)
+    (p b)
+    _
+    _
+    (λ d l. suc-add n (run p (drop n bs)) ∙ ap suc (inside-run p bs n (le-of-suc-le-suc l)))
+    (λ d l. absurd (not-suc-le-zero l))
+    h
+
+pub chunks-inside : (p : ℕ → Bool) (bs : List ℕ) (i : ℕ) → run-end p bs (chunks-end p bs i) ≡ run-end p bs i
+unfolding run-end chunks-end
+chunks-inside p bs i =
+    let n = run p (drop i bs) / 16 * 16 in
+    rw (sym (drop-drop n i bs)) (add-assoc i n (run p (drop n (drop i bs))) ∙ ap (λ (k : ℕ). i + k) (inside-run p (drop i bs) n (omega arith)))
 
 -- RANGES ---------------------------------------------------------------------------------------------------------------
 

@@ -12,7 +12,7 @@ ghost use Rattle.predictive.specs.Grammar.{has};
 ghost use Rattle.aadl.specs.Bytes.{peek as byte-at, run-end};
 ghost use Rattle.aadl.specs.Utf8.{_to_, fits, sequence};
 ghost use Rattle.classes.specs.Classes.{lead-of, lead-table, class-table, member};
-ghost use Rattle.classes.specs.Search.{any, sought, unsought, other-than};
+ghost use Rattle.classes.specs.Search.{any, sought, unsought, other-than, chunks-end};
 
 // The classes, one bit each: those of aadl's Bytes by their names there (WORD: `is-ident-continue`), and bytes that stand second in a
 // mark or in `--`.
@@ -159,10 +159,10 @@ pub fn is_ascii(s: &[u8]) -> bool
     !any_between(s, 128, 255)
 }
 
-// Past chunks of bytes in which none of a range stands.
+// Past the whole chunks of bytes in which none of a range stands.
 fn skip_chunks(s: &[u8], from: usize, least: u8, most: u8) -> usize
     requires { ⌜ from ≤ length (now s) ⌝ }
-    ensures { λ r. ⌜ (run-end (unsought least most) (now (s .entry)) r ≡ run-end (unsought least most) (now (s .entry)) from) × (r ≤ length (now (s .entry))) ⌝ }
+    ensures { λ r. ⌜ (r ≡ chunks-end (unsought least most) (now (s .entry)) from) × (r ≤ length (now (s .entry))) ⌝ }
 {
     let mut i = from;
     while i + 16 <= s.len() {

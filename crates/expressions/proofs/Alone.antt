@@ -4,14 +4,12 @@ use Prim.Native.Nat.{ℕ}
 use mathlib.Core.Path.{_≡_, refl, ap, subst, _∙_}
 use mathlib.Core.Bool.{Bool, true, false, cond}
 use mathlib.Core.List.{List, []}
-use lib.ListN.{length, length-set}
+use lib.ListN.{length}
 use lib.Dec.{eqb}
-use Rattle.predictive.specs.Events.{start}
 use Rattle.predictive.specs.Grammar.{Head, at, Choice, Part, leaning, suffix}
 use Rattle.predictive.specs.Reader.{ones, first, null}
 use Rattle.predictive.proofs.Heads.{same, among, within-heads, within-absent}
 use Rattle.predictive.proofs.Lookahead.{single}
-use Rattle.aadl.specs.Reading.{event-word}
 use Rattle.aadl.specs.Section.{Rule, grammar, operand, expression}
 use Rattle.parser.specs.declared.Parser.{Parser}
 use Rattle.parser.specs.declared.Marker.{Marker}
@@ -23,6 +21,7 @@ use Rattle.parser.specs.declared.Lhs.the-variants.{Node, Nothing}
 use Rattle.parser.specs.Input.{Input, input, rest}
 use Rattle.parser.specs.State.{precede}
 use Rattle.parser.specs.Reads.{stands, heads-of, Read, ReadOperand, Starts, Completes}
+use Rattle.parser.proofs.Buffer.{named-below}
 use Rattle.parser.proofs.Emitted.{emitted-completed, preceded-rest}
 use Rattle.parser.proofs.Nodes.{x-none, x-stay}
 use Rattle.parser.proofs.Chains.{c-none, c-holds, c-done}
@@ -71,7 +70,7 @@ pub operand-from : {inp : Input} {P : Part Rule} {p q : Parser} {b : List ℕ} {
 operand-from {inp} {P} {p} {q} {b} {o} {c} e x = subst (λ (t : Parser). ReadOperand inp (t .left) P t b o c) e x
 
 pub completed-long : {m : Marker} {k : ℕ} {p : Parser} {b : List ℕ} {r : Completed} {c : List ℕ} → Completes m k p b r c → length c ≡ length b
-completed-long {m} {k} {p} {b} x = emitted-completed {inp = input [] []} x .long ∙ length-set b (m .0) (event-word (start k 0))
+completed-long {m} {k} {p} {b} x = emitted-completed {inp = input [] []} x .long ∙ named-below (m .0) k .long b
 
 pub preceded-long : (m : ℕ) {p : Parser} {b : List ℕ} {s : Started} {c : List ℕ} → Starts p b s c (precede m) → length c ≡ length b
 preceded-long m x = preceded-rest (input [] []) m x .2

@@ -120,7 +120,7 @@ unfolding read step rest
 behind inp j P p b r c h f y =
     let level : suc (p .left - 1) ≡ p .left = omega (arith, h) in
     o-node j (λ n. reading-at inp n (suc (p .left - 1)) P p)
-    (λ n i. within-left (p .left) (rest inp p) _ h ∙ ap (λ (m : ℕ). reading-at inp n m opener-value p) (sym level) ∙ sym (f n i))
+    (λ n i. within-left 6 (p .left) (rest inp p) _ h ∙ ap (λ (m : ℕ). reading-at inp n m opener-value p) (sym level) ∙ sym (f n i))
     (r-opens h (r-same f (y .reads))) (y .mark)
 
 -- A node behind an opener, told by its first token k, read with one opener fewer left.

@@ -1,43 +1,19 @@
 -- Tests of the kind that a symbol shows: a C-style literal shows ERROR, every other symbol itself. Assumes nothing.
-use Prim.Native.Nat.{ℕ, _≤_, _<_, _/_, _%_}
-use native.Mathlib.Nat.{mod-lt}
-use native.Mathlib.Omega.{arith}
+use Prim.Native.Nat.{ℕ}
 use mathlib.Core.Path.{_≡_, refl, sym, ap, _∙_}
-use mathlib.Core.Bool.{Bool, true, false, cond, _&&_}
+use mathlib.Core.Bool.{Bool, true, false, cond}
 use mathlib.Core.List.{List, [], _∷_}
-use lib.ListN.{length, getD, drop}
-use lib.Dec.{eqb, lit<}
-use borrow.Author.Tests.{eqb-true, eq-eqb, ne-eqb}
+use lib.Dec.{eqb}
+use borrow.Author.Tests.{eqb-true, eq-eqb}
 use Rattle.predictive.specs.Grammar.{has}
 use Rattle.predictive.specs.Reader.{ones}
-use Rattle.predictive.proofs.Tests.{and-l}
 use Rattle.syntax_kind.proofs.KindSets.{joined, joined-has}
 use Rattle.aadl.specs.Kinds.{#_, ERROR}
-use Rattle.aadl.specs.Bytes.{peek}
-use Rattle.aadl.specs.Symbols.{C-STYLE, symbol-of, shown}
+use Rattle.aadl.specs.Symbols.{C-STYLE, shown}
 use Rattle.parser.specs.declared.Parser.{Parser}
-use Rattle.parser.specs.Input.{Input, kind-in, standing, END, ahead, nth}
+use Rattle.parser.specs.Input.{Input, END, nth}
 use Rattle.parser.specs.Reads.{stands}
-use Rattle.parser.proofs.Trivia.{ahead-is, ahead-ends}
 use Rattle.categories.proofs.Words.{kinds-are}
-
-shown-symbol : (k b : ℕ) → k < 256 → k ≡ shown (symbol-of k b)
-unfolding shown
-shown-symbol k b h = go (eqb k (# ERROR) && eqb b 48) refl
-  where
-    go : (t : Bool) → (eqb k (# ERROR) && eqb b 48) ≡ t → k ≡ shown (cond t C-STYLE k)
-    go true e = eqb-true k (# ERROR) (and-l (eqb k (# ERROR)) (eqb b 48) e)
-    go false e = sym (rw (ne-eqb k 258 (λ z. let w : ⊥ = omega (arith, h, z) in w)) refl)
-
-module _ (text ws : List ℕ) (i b : ℕ) where
-  pub shown-ahead : i < length ws → getD ws i 0 / 65536 % 256 ≡ shown (ahead (standing text b (drop i ws)))
-  shown-ahead h =
-      let k = kind-in (getD ws i 0) in
-      shown-symbol k (peek text b) (mod-lt (getD ws i 0 / 65536) (lit< tt)) ∙ ap shown (ahead-is text ws i b h refl refl)
-
-  pub shown-end : length ws ≤ i → END ≡ shown (ahead (standing text b (drop i ws)))
-  unfolding shown
-  shown-end h = ap shown (ahead-ends text ws i b h)
 
 shown-has : (ks : List ℕ) (x : ℕ) → has ks (# ERROR) ≡ false → has ks C-STYLE ≡ false → has ks (shown x) ≡ has ks x
 unfolding shown

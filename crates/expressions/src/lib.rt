@@ -6,6 +6,7 @@ use parser::END;
 use parser::Lhs;
 use parser::Operand;
 use parser::Parser;
+use parser::TOO_DEEP;
 use parser::at;
 use parser::bump;
 use parser::bump_any;
@@ -13,9 +14,10 @@ use parser::complete;
 use parser::current;
 use parser::error;
 use parser::expect;
+use parser::kind_at;
 use parser::precede;
 use parser::start;
-use parser::too_deep;
+use parser::stop;
 use parser::with_left;
 use syntax_kind::BINARY_EXPR;
 use syntax_kind::BOOLEAN_VALUE;
@@ -98,20 +100,6 @@ fn closed(c: Completed, left: usize) -> Operand
     }
 }
 
-// The kind of the token where the parser stands, a C-style literal's too, or the end's.
-fn kind_at(toks: &[u32], p: Parser) -> u32
-    ensures { λ r. ⌜ ((text : List ℕ) → r ≡ shown (nth (input text (now (toks .entry))) p 0)) ⌝ }
-{
-    if p.stop != 0 {
-        return END;
-    }
-    let at = p.at;
-    if at < toks.len() {
-        return toks[at] / 65536 % 256;
-    }
-    END
-}
-
 // An opener stands: `not`, `(`, `[` or a sign.
 fn at_opener(text: &[u8], toks: &[u32], p: Parser) -> bool
     ensures { λ r. ⌜ r ≡ stands (input (now (text .entry)) (now (toks .entry))) (ones (G.numbers (K.NOT-KW ∷ K.L-PAREN ∷ K.L-BRACKET ∷ K.PLUS ∷ K.MINUS ∷ []))) p ⌝ }
@@ -164,7 +152,7 @@ fn opener(text: &[u8], toks: &[u32], events: &mut [u32], p: Parser) -> Operand
 {
     let left = p.left;
     if left == 0 {
-        let p = too_deep(p);
+        let p = stop(p, TOO_DEEP);
         return Operand {
             p,
             lhs: Lhs::Nothing,
@@ -176,7 +164,7 @@ fn opener(text: &[u8], toks: &[u32], events: &mut [u32], p: Parser) -> Operand
         NOT_KW => closed(not_value(text, toks, events, q), left),
         L_PAREN => closed(list_value(text, toks, events, q), left),
         L_BRACKET => closed(record_value(text, toks, events, q), left),
-        _ => closed(signed(text, toks, events, q), left),
+        _ => closed(signed_value(text, toks, events, q), left),
     }
 }
 
@@ -186,7 +174,7 @@ fn not_value(text: &[u8], toks: &[u32], events: &mut [u32], p: Parser) -> Comple
     let s = start(events, p);
     let p = bump(text, toks, events, s.p, NOT_KW);
     let o = property_expression_primary(text, toks, events, p);
-    let p = behind(text, toks, events, o);
+    let p = expr(text, toks, events, o);
     complete(events, p, s.m, BOOLEAN_VALUE)
 }
 
@@ -227,7 +215,7 @@ fn record_value(text: &[u8], toks: &[u32], events: &mut [u32], p: Parser) -> Com
 }
 
 // A sign and the operand that it is for, not the sum around them: `-1 + 2` is a sum.
-fn signed(text: &[u8], toks: &[u32], events: &mut [u32], p: Parser) -> Completed
+fn signed_value(text: &[u8], toks: &[u32], events: &mut [u32], p: Parser) -> Completed
     ensures { λ r. ⌜ ReadNode (input (now (text .entry)) (now (toks .entry))) (suc (p .left)) signed-value p (now (events .entry)) r (now (events .exit)) ⌝ }
 {
     let s = start(events, p);
@@ -264,8 +252,8 @@ fn at_operator(text: &[u8], toks: &[u32], p: Parser) -> bool
 
 // Most operands have no operator behind them: what is behind one has functions of its own, and the readers stay small.
 
-// The factors behind an operand, if any: a product.
-fn factors(text: &[u8], toks: &[u32], events: &mut [u32], o: Operand) -> Operand
+// From an operand to a product: the factors behind it, if any.
+fn product(text: &[u8], toks: &[u32], events: &mut [u32], o: Operand) -> Operand
     ensures { λ r. ⌜ Extends (input (now (text .entry)) (now (toks .entry))) G.operand G.product o (now (events .entry)) r (now (events .exit)) ⌝ }
 {
     let lhs = o.lhs;
@@ -292,11 +280,11 @@ fn multiplicative_expression(text: &[u8], toks: &[u32], events: &mut [u32], p: P
     ensures { λ r. ⌜ ReadOperand (input (now (text .entry)) (now (toks .entry))) (p .left) G.product p (now (events .entry)) r (now (events .exit)) ⌝ }
 {
     let o = property_expression_primary(text, toks, events, p);
-    factors(text, toks, events, o)
+    product(text, toks, events, o)
 }
 
-// The terms behind a product, if any: a sum.
-fn terms(text: &[u8], toks: &[u32], events: &mut [u32], o: Operand) -> Operand
+// From a product to a sum: the terms behind it, if any.
+fn sum(text: &[u8], toks: &[u32], events: &mut [u32], o: Operand) -> Operand
     ensures { λ r. ⌜ Extends (input (now (text .entry)) (now (toks .entry))) G.product G.sum o (now (events .entry)) r (now (events .exit)) ⌝ }
 {
     let lhs = o.lhs;
@@ -323,7 +311,7 @@ fn additive_expression(text: &[u8], toks: &[u32], events: &mut [u32], p: Parser)
     ensures { λ r. ⌜ ReadOperand (input (now (text .entry)) (now (toks .entry))) (p .left) G.sum p (now (events .entry)) r (now (events .exit)) ⌝ }
 {
     let o = multiplicative_expression(text, toks, events, p);
-    terms(text, toks, events, o)
+    sum(text, toks, events, o)
 }
 
 // `delta` and a sum, if `delta` stands.
@@ -340,7 +328,7 @@ fn delta(text: &[u8], toks: &[u32], events: &mut [u32], p: Parser) -> Parser
     p
 }
 
-// `..` and a sum behind a sum, with what may follow.
+// From a sum to a range: `..` and a sum behind it, with what may follow.
 fn range(text: &[u8], toks: &[u32], events: &mut [u32], o: Operand) -> Parser
     ensures { λ r. ⌜ ToRange (input (now (text .entry)) (now (toks .entry))) o (now (events .entry)) r (now (events .exit)) ⌝ }
 {
@@ -357,12 +345,12 @@ fn range(text: &[u8], toks: &[u32], events: &mut [u32], o: Operand) -> Parser
     c.p
 }
 
-// What stands behind an operand, if anything: an expression.
-fn behind(text: &[u8], toks: &[u32], events: &mut [u32], o: Operand) -> Parser
+// From an operand to an expression: what stands behind it, if anything.
+fn expr(text: &[u8], toks: &[u32], events: &mut [u32], o: Operand) -> Parser
     ensures { λ r. ⌜ ToExpression (input (now (text .entry)) (now (toks .entry))) o (now (events .entry)) r (now (events .exit)) ⌝ }
 {
-    let o = factors(text, toks, events, o);
-    let o = terms(text, toks, events, o);
+    let o = product(text, toks, events, o);
+    let o = sum(text, toks, events, o);
     if at(text, toks, o.p, DOT_DOT) {
         return range(text, toks, events, o);
     }
@@ -377,7 +365,7 @@ pub fn property_expression(text: &[u8], toks: &[u32], events: &mut [u32], p: Par
     // a parser of its own: passed on as it came, p would be copied whole on the way in
     let o = property_expression_primary(text, toks, events, with_left(p, left));
     if at_operator(text, toks, o.p) {
-        return behind(text, toks, events, o);
+        return expr(text, toks, events, o);
     }
     o.p
 }

@@ -5,13 +5,14 @@ use categories::direction;
 use categories::name_or_error;
 use parser::Completed;
 use parser::Parser;
+use parser::TOO_DEEP;
 use parser::at;
 use parser::bump;
 use parser::bump_any;
 use parser::complete;
 use parser::expect;
 use parser::start;
-use parser::too_deep;
+use parser::stop;
 use parser::with_left;
 use syntax_kind::CLASSIFIER_KW;
 use syntax_kind::CLASSIFIER_REF;
@@ -72,7 +73,7 @@ fn prototype_bindings(text: &[u8], toks: &[u32], events: &mut [u32], p: Parser) 
     if at(text, toks, p, L_PAREN) {
         let left = p.left;
         if left == 0 {
-            return too_deep(p);
+            return stop(p, TOO_DEEP);
         }
         let p = prototype_binding_list(text, toks, events, with_left(p, left - 1));
         return with_left(p, left);

@@ -40,14 +40,7 @@ pub record Filling (s old words : List ℕ) (at n : ℕ) : Type 0 where
 
 pub filling-starts : (s old : List ℕ) → Filling s old old 0 0
 filling-starts s old =
-    record {
-      fits = zero-le;
-      room = zero-le;
-      same = refl;
-      written = refl;
-      counts = omega arith;
-      place = rw (sub-zero (length old)) (zero-add _);
-    }
+    record { fits = zero-le; room = zero-le; same = refl; written = refl; counts = omega arith; place = rw (sub-zero (length old)) (zero-add _) }
 
 module _ {s old words : List ℕ} {at n : ℕ} (f : Filling s old words at n) where
   -- the next token, and the tokens after it
@@ -116,11 +109,7 @@ pub token-fits : (s : List ℕ) (at : ℕ) (t : Token) → at < length s → t �
 token-fits s at t h e =
     let w = token-within (drop at s) (omega (arith, length-drop at s)) in
     let q = ap (λ (u : Token). u .len) e in
-    record {
-      some = omega arith;
-      inside = omega (arith, length-drop at s);
-      small = omega (arith, token-kind-small (drop at s), ap (λ (u : Token). u .kind) e);
-    }
+    record { some = omega arith; inside = omega (arith, length-drop at s); small = omega (arith, token-kind-small (drop at s), ap (λ (u : Token). u .kind) e) }
 
 -- WHAT A FILLING ANSWERS -----------------------------------------------------------------------------------------------
 

@@ -1,4 +1,4 @@
 pub mod TextLaws
-pub mod FilledLaws
+pub mod FrontLaws
 pub mod FillLaws
 pub mod SequenceLaws

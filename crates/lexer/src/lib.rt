@@ -1,18 +1,21 @@
 // The tokens-only call: UTF-8, tokens, refusals 1 to 3; and the text of a token by its number.
 
 use aadl::Answer;
+use aadl::Limits;
 use classes::class_table;
 use classes::is_ascii;
 use classes::lead_table;
 use classes::sequence_at;
 use classes::skip_ascii;
+use codec::length_in;
+use codec::token_word;
 use keywords::word_tables;
 use scan::scan_token;
 use scan::word_bound;
 ghost use mathlib.Core.Path.{_≡_};
 ghost use Prim.Native.Nat.{_+_, _≤_, min};
 ghost use lib.ListN.{length, take, replicate};
-ghost use Rattle.aadl.specs.Limits.{base};
+ghost use Rattle.aadl.specs.Limits.{base, Allowed};
 ghost use Rattle.aadl.specs.Utf8.{ill-formed};
 ghost use Rattle.aadl.specs.Tokens.{total, token-text};
 ghost use Rattle.aadl.specs.Answers.{refused, tokens-answer, token-words, left-in};
@@ -45,7 +48,7 @@ fn valid_up_to(s: &[u8]) -> usize
 
 // Fills the words with the tokens of a text, as far as they go.
 fn fill(s: &[u8], tokens: &mut [u32]) -> Filled
-    requires { ⌜ length (now s) ≤ 32768 ⌝ }
+    requires { ⌜ length (now s) ≤ base .bytes ⌝ }
     ensures { λ r. ⌜ (r ≡ filled-of (now (s .entry)) (length (now (tokens .entry)))) × (now (tokens .exit) ≡ write (token-words (now (s .entry))) (now (tokens .entry))) ⌝ }
 {
     let leads = lead_table();
@@ -81,7 +84,7 @@ fn fill(s: &[u8], tokens: &mut [u32]) -> Filled
         );
         let k = t.kind;
         let l = t.len;
-        tokens[n] = k * 65536 + l as u32;
+        tokens[n] = token_word(k, l);
         n += 1;
         at += l;
     }
@@ -124,7 +127,7 @@ pub fn token_start(words: &[u32], number: usize, cap: usize) -> usize
         if words.len() <= k {
             return at;
         }
-        let n = (words[k] % 65536) as usize;
+        let n = length_in(words[k]);
         at = add_capped(at, n, cap);
         k += 1;
     }
@@ -140,7 +143,7 @@ pub fn token_text<'a>(src: &'a [u8], words: &[u32], number: usize) -> &'a [u8]
     }
     let cap = src.len() + 1;
     let from = token_start(words, number, cap);
-    let n = (words[number] % 65536) as usize;
+    let n = length_in(words[number]);
     let end = add_capped(from, n, cap);
     if src.len() < end {
         return &src[..0];
@@ -148,8 +151,14 @@ pub fn token_text<'a>(src: &'a [u8], words: &[u32], number: usize) -> &'a [u8]
     &src[from..end]
 }
 
-// A refusal zeroes every lent word.
-fn refuse(tokens: &mut [u32], number: u32, place: usize) -> Answer
+// 01's limits.
+pub const BASE: Limits = Limits {
+    bytes: 32768,
+    openers: 64,
+};
+
+// A refusal zeroes every lent word. A call with more words clears the others.
+pub fn refuse(tokens: &mut [u32], number: u32, place: usize) -> Answer
     ensures { λ r. ⌜ (r ≡ refused number place) × (now (tokens .exit) ≡ replicate (length (now (tokens .entry))) 0) ⌝ }
 {
     clear(tokens);
@@ -162,12 +171,13 @@ fn refuse(tokens: &mut [u32], number: u32, place: usize) -> Answer
     }
 }
 
-// The tokens-only call: the tokens of a text into lent words, or one of the refusals 1 to 3 with all words zeroed.
-pub fn tokenize(src: &[u8], tokens: &mut [u32]) -> Answer
-    ensures { λ r. ⌜ (r ≡ tokens-answer base (now (src .entry)) (length (now (tokens .entry)))) × (now (tokens .exit) ≡ left-in r (token-words (now (src .entry))) (now (tokens .entry))) ⌝ }
+// The tokens-only call within limits: the tokens of a text into lent words, or one of the refusals 1 to 3 with all words zeroed.
+pub fn tokenize_within(src: &[u8], tokens: &mut [u32], limits: Limits) -> Answer
+    requires { ⌜ Allowed limits ⌝ }
+    ensures { λ r. ⌜ (r ≡ tokens-answer limits (now (src .entry)) (length (now (tokens .entry)))) × (now (tokens .exit) ≡ left-in r (token-words (now (src .entry))) (now (tokens .entry))) ⌝ }
 {
-    if 32768 < src.len() {
-        return refuse(tokens, 1, 32768);
+    if limits.bytes < src.len() {
+        return refuse(tokens, 1, limits.bytes);
     }
     let v = valid_up_to(src);
     if v != src.len() {
@@ -186,4 +196,11 @@ pub fn tokenize(src: &[u8], tokens: &mut [u32]) -> Answer
         taken: 0,
         events: 0,
     }
+}
+
+// The tokens-only call: the tokens of a text into lent words, or one of the refusals 1 to 3 with all words zeroed.
+pub fn tokenize(src: &[u8], tokens: &mut [u32]) -> Answer
+    ensures { λ r. ⌜ (r ≡ tokens-answer base (now (src .entry)) (length (now (tokens .entry)))) × (now (tokens .exit) ≡ left-in r (token-words (now (src .entry))) (now (tokens .entry))) ⌝ }
+{
+    tokenize_within(src, tokens, BASE)
 }

@@ -11,9 +11,10 @@ use Rattle.predictive.specs.Forest.{message}
 use Rattle.predictive.specs.Events.{Event, error}
 use Rattle.aadl.specs.declared.Answer.{Answer}
 use Rattle.aadl.specs.Words.{bytes}
-use Rattle.aadl.specs.Limits.{Limits}
+use Rattle.aadl.specs.declared.Limits.{Limits}
 use Rattle.aadl.specs.Symbols.{symbols, start-of}
-use Rattle.aadl.specs.Reading.{events, fields, event-word, event-by, event-in}
+use Rattle.aadl.specs.Encoding.{fields, event-word, event-by, event-in}
+use Rattle.aadl.specs.Reading.{events}
 use Rattle.aadl.specs.Answers.{section-answer}
 use Rattle.aadl.specs.Listing.{decimal, line-after, column-after, row, letter, event-line, event-lines, listing}
 use Rattle.spots.specs.declared.Spot.{Spot}
@@ -37,7 +38,7 @@ event-by-high w h = go (w / 16777216) h
     go (suc (suc zero)) h = absurd (omega arith)
     go (suc (suc (suc c))) h = refl
 
-pub event-line-is : (text : List ℕ) (n t : ℕ) (e : Event) → event-in (event-word e) ≡ e →
+event-line-is : (text : List ℕ) (n t : ℕ) (e : Event) → event-in (event-word e) ≡ e →
     line-of n (event-word e) (line-after 1 (take (start-of text t) text)) (column-after 1 (take (start-of text t) text)) ≡ event-line text n t e
 unfolding line-of event-line
 event-line-is text n t e w =
@@ -69,7 +70,7 @@ first-is-refusal a f = rw (ne-eqb (a .number) 0 f) refl
 -- FIELDS ---------------------------------------------------------------------------------------------------------------
 
 -- A line's fields, each with the byte after it, one after the other.
-abbrev pub line-fields : (n : ℕ) → (x : List ℕ) → (k y l c : ℕ) → List ℕ
+abbrev line-fields : (n : ℕ) → (x : List ℕ) → (k y l c : ℕ) → List ℕ
 line-fields n x k y l c =
     ((((((decimal n ++ (44 ∷ [])) ++ x) ++ (44 ∷ [])) ++ (decimal k ++ (44 ∷ []))) ++ (decimal y ++ (44 ∷ []))) ++ (decimal l ++ (44 ∷ []))) ++ (decimal c ++ (10 ∷ []))
 
@@ -78,7 +79,7 @@ pub line-parts : (n w l c : ℕ) (x : List ℕ) (k y : ℕ) → x ≡ letter (ev
 unfolding line-of
 line-parts n w l c x k y p q r = simp append-assoc (λ i. row (decimal n ∷ p i ∷ decimal (q i) ∷ decimal (r i) ∷ decimal l ∷ decimal c ∷ []))
 
-abbrev pub refusal-fields : (n p : ℕ) → List ℕ
+abbrev refusal-fields : (n p : ℕ) → List ℕ
 refusal-fields n p = (bytes "refused," ++ (decimal n ++ (44 ∷ []))) ++ (decimal p ++ (10 ∷ []))
 
 pub refusal-parts : (n p : ℕ) → refusal-fields n p ≡ refusal-line n p

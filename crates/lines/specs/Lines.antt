@@ -5,7 +5,7 @@ use mathlib.Core.List.{List, [], _∷_}
 use lib.Dec.{eqb}
 use Rattle.aadl.specs.declared.Answer.{Answer}
 use Rattle.aadl.specs.Words.{bytes}
-use Rattle.aadl.specs.Reading.{fields, event-in}
+use Rattle.aadl.specs.Encoding.{fields, event-in}
 use Rattle.aadl.specs.Listing.{decimal, row, letter}
 
 -- "Header, then .."

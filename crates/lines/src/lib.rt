@@ -1,5 +1,8 @@
 // The lines of the listing, written into lent bytes: an event's, the header, a refusal's.
 use aadl::Answer;
+use codec::class_in;
+use codec::kind_in;
+use codec::last_in;
 use spots::Spot;
 use writing::put_byte;
 use writing::put_decimal;
@@ -8,7 +11,7 @@ ghost use Prim.Native.Nat.{_≤_};
 ghost use mathlib.Core.Path.{_≡_};
 ghost use mathlib.Core.List.{[], _∷_, _++_};
 ghost use lib.ListN.{length};
-ghost use Rattle.aadl.specs.Reading.{fields, event-in};
+ghost use Rattle.aadl.specs.Encoding.{fields, event-in};
 ghost use Rattle.aadl.specs.Listing.{decimal, letter};
 ghost use Rattle.writing.specs.Written.{Wrote};
 ghost use Rattle.lines.specs.Lines.{line-room, line-of, refusal-line, first-line};
@@ -29,9 +32,9 @@ struct Fields {
 fn fields_in(word: u32) -> Fields
     ensures { λ r. ⌜ ((r .letter ∷ []) ≡ letter (event-in word)) × (r .kind ≡ fields (event-in word) .1) × (r .last ≡ fields (event-in word) .2) ⌝ }
 {
-    let kind = word / 65536 % 256;
-    let last = word % 65536;
-    match word / 16777216 {
+    let kind = kind_in(word);
+    let last = last_in(word);
+    match class_in(word) {
         0 => Fields {
             letter: b'S',
             kind,

@@ -1,90 +1,83 @@
 -- The pieces of a listing, end to end, are 01's listing, for all bytes: of a call's answer and words (by demand 1: either all was read, or nothing is
 -- left but the refusal's line), and of a text of which only the first bytes were read, one more than may be. Assumes nothing.
-use Prim.Native.Nat.{ℕ, suc, _-_, _≤_, _<_, min}
+use Prim.Native.Nat.{ℕ, suc, _-_, _≤_, _<_}
 use native.Mathlib.Omega.{arith}
 use mathlib.Core.Path.{_≡_, refl, sym, ap, _∙_}
 use mathlib.Core.Logic.{⊎-elim}
 use mathlib.Core.Bool.{Bool, true, false, cond}
 use mathlib.Core.List.{List, [], _∷_, _++_, append-nil}
-use lib.ListN.{length, take, drop, length-append, length-map}
-use lib.Seq.{take-at, take-all, length-take-le}
+use lib.ListN.{length, take, drop, length-append}
+use lib.Seq.{take-all, length-take-le}
 use lib.Dec.{leb}
 use borrow.Author.Tests.{ne-eqb, leb-true, leb-false}
-use Rattle.predictive.specs.Events.{taken}
 use Rattle.aadl.specs.declared.Answer.{Answer}
-use Rattle.aadl.specs.Limits.{base, most-events}
-use Rattle.aadl.specs.Tokens.{tokens, token-word}
-use Rattle.aadl.specs.Symbols.{symbols}
-use Rattle.aadl.specs.Reading.{events, event-word}
-use Rattle.aadl.specs.Answers.{section-checks, answered, refused, section-answer, token-words, event-words}
+use Rattle.aadl.specs.declared.Limits.{Limits}
+use Rattle.aadl.specs.Limits.{Allowed}
+use Rattle.aadl.specs.Answers.{section-checks, all-answered, refused, section-answer}
 use Rattle.aadl.specs.Listing.{listing}
 use Rattle.aadl.proofs.Lists.{Each}
 use Rattle.aadl.proofs.AnswerLaws.{too-long}
-use Rattle.aadl.proofs.Checks.{section-numbered}
+use Rattle.aadl.proofs.Settled.{five-numbers, Answered-whole, Refused-first}
 use Rattle.parser.specs.Input.{Input, input}
-use Rattle.section.proofs.Demands.{Called, Filled, Refused, checks, first-numbered, every-answer-is-settled}
+use Rattle.section.proofs.Demands.{Called, checks, buffers, counted-tokens, counted-events, every-answer-is-settled}
 use Rattle.listing.specs.declared.Listing.{Listing}
-use Rattle.listing.specs.declared.Cursor.{Cursor}
+use Rattle.listing.specs.declared.Position.{Position}
 use Rattle.lines.specs.Lines.{line-room, refusal-line, first-line}
-use Rattle.listing.specs.Cursors.{begin, step, lines-from}
-use Rattle.listing.specs.Pieces.{joined, piece, left, Lists}
+use Rattle.listing.specs.Positions.{begin, step, lines-from}
+use Rattle.listing.specs.Pieces.{joined, piece, left, Lists-within}
 use Rattle.lines.proofs.LineLaws.{listing-is, first-is-header, first-is-refusal, line-some, first-line-some}
-use Rattle.listing.proofs.CursorLaws.{listing-of-answer}
+use Rattle.listing.proofs.PositionLaws.{listing-of-answer}
 use Rattle.listing.proofs.PieceLaws.{piece-more, pieces, pieces-are-all}
 
 -- OF A CALL ------------------------------------------------------------------------------------------------------------
 
--- The lines of an answer and the words that it counts, from a cursor on.
-abbrev pub answer-lines : (text ts es : List ℕ) → Answer → Cursor → List (List ℕ)
+-- The lines of an answer and the words that it counts, from a position on.
+abbrev pub answer-lines : (text ts es : List ℕ) → Answer → Position → List (List ℕ)
 answer-lines text ts es a k = first-line a ∷ lines-from (input text (take (a .tokens) ts)) 0 (take (a .events) es) k
 
-module _ {text old last : List ℕ} {a : Answer} {ts es : List ℕ} (c : Called text old last a ts es) (m : length old ≡ 16384) (n : length last ≡ 8192) where
-  answer-is : a ≡ section-answer base text 16384 8192
-  answer-is = c .answer ∙ (λ i. section-answer base text (m i) (n i))
+module _ {limits : Limits} {text old last : List ℕ} {a : Answer} {ts es : List ℕ} (c : Called limits text old last a ts es) (h : Allowed limits) (m : length old ≡ 16384) (n : length last ≡ 8192) where
+  answer-is : a ≡ section-answer limits text 16384 8192
+  answer-is = c .answer ∙ (λ i. section-answer limits text (m i) (n i))
 
-  read-listed : (k : Cursor) → k ≡ begin (input text (take (a .tokens) ts)) → Filled text old last a ts es → joined (answer-lines text ts es a k) ≡ listing base text
+  read-listed : (k : Position) → k ≡ begin (input text (take (a .tokens) ts)) → Answered-whole five-numbers (checks limits text old last) (all-answered limits text) a (buffers limits text old last ts es) → joined (answer-lines text ts es a k) ≡ listing limits text
   read-listed k e x =
       let f = first-is-header a (ap (λ (r : Answer). r .number) (x .counts)) in
-      let t : take (a .tokens) ts ≡ token-words text =
-      (λ i. take (x .counts i .tokens) (x .token-words-fill i)) ∙ take-at (token-words text) _ (length (tokens text)) (length-map (tokens text) token-word) in
-      let w : take (a .events) es ≡ event-words base text =
-      (λ i. take (x .counts i .events) (x .event-words-fill i))
-      ∙ take-at (event-words base text) _ (length (events base (symbols text))) (length-map (events base (symbols text)) event-word) in
+      let t = counted-tokens c x in
+      let w = counted-events c x in
       let b = e ∙ ap (λ (l : List ℕ). begin (input text l)) t in
       (λ i. f i ++ joined (lines-from (input text (t i)) 0 (w i) (b i)))
-      ∙ listing-of-answer text (ap (λ (r : Answer). r .number) (sym answer-is ∙ x .counts))
+      ∙ listing-of-answer limits text h (ap (λ (r : Answer). r .number) (sym answer-is ∙ x .counts))
 
-  refused-listed : (k : Cursor) → Refused text old last a ts es → joined (answer-lines text ts es a k) ≡ listing base text
+  refused-listed : (k : Position) → Refused-first five-numbers (checks limits text old last) a (buffers limits text old last ts es) → joined (answer-lines text ts es a k) ≡ listing limits text
   unfolding lines-from
   refused-listed k x =
-      let z : a .number ≡ 0 → ⊥ =
-      λ e. first-numbered (checks text old last) (x .number) (x .place) (section-numbered base text (length old) (min (length last) most-events)) (x .first) (sym (ap (λ (r : Answer). r .number) (x .no-counts)) ∙ e) in
+      let z : a .number ≡ 0 → ⊥ = λ e. x .not-zero (sym (ap (λ (r : Answer). r .number) (x .no-counts)) ∙ e) in
       (λ i. first-line a ++ joined (lines-from (input text (take (a .tokens) ts)) 0 (take (x .no-counts i .events) es) k))
       ∙ append-nil (first-line a) ∙ first-is-refusal a z
-      ∙ sym (listing-is base text a answer-is ∙ rw (ne-eqb (a .number) 0 z) refl)
+      ∙ sym (listing-is limits text a answer-is ∙ rw (ne-eqb (a .number) 0 z) refl)
 
   -- What the section call answers and leaves has the listing's lines.
-  pub call-listed : (k : Cursor) → k ≡ begin (input text (take (a .tokens) ts)) → joined (answer-lines text ts es a k) ≡ listing base text
+  pub call-listed : (k : Position) → k ≡ begin (input text (take (a .tokens) ts)) → joined (answer-lines text ts es a k) ≡ listing limits text
   call-listed k e = ⊎-elim (read-listed k e) (refused-listed k) (every-answer-is-settled c)
 
 -- OF THE FIRST BYTES ---------------------------------------------------------------------------------------------------
 
--- a text that is too long has one line, whatever it is
-long-listed : (text : List ℕ) → 32768 < length text → listing base text ≡ refusal-line 1 32768
-unfolding section-answer
-long-listed text h =
-    listing-is base text (refused 1 32768)
-    (sym (too-long base text 16384 (section-checks base text 8192) (answered (length (tokens text)) (taken (events base (symbols text))) (length (events base (symbols text)))) h))
+module _ (limits : Limits) where
+  -- a text that is too long has one line, whatever it is
+  long-listed : (text : List ℕ) → limits .bytes < length text → listing limits text ≡ refusal-line 1 (limits .bytes)
+  unfolding section-answer
+  long-listed text h =
+      listing-is limits text (refused 1 (limits .bytes)) (sym (too-long limits text 16384 (section-checks limits text 8192) (all-answered limits text) h))
 
--- So a text's first bytes, more than may be, have the listing of the whole.
-pub first-bytes-listed : (text : List ℕ) (n : ℕ) → 32768 < n → listing base (take n text) ≡ listing base text
-first-bytes-listed text n h = go (leb (length text) n) refl
-  where
-    go : (t : Bool) → leb (length text) n ≡ t → listing base (take n text) ≡ listing base text
-    go true e = ap (listing base) (take-all n text (leb-true (length text) n e))
-    go false e =
-        let g = leb-false (length text) n e in
-        long-listed (take n text) (omega (arith, length-take-le n text (omega arith))) ∙ sym (long-listed text (omega arith))
+  -- So a text's first bytes, more than may be, have the listing of the whole.
+  pub first-bytes-listed : (text : List ℕ) (n : ℕ) → limits .bytes < n → listing limits (take n text) ≡ listing limits text
+  first-bytes-listed text n h = go (leb (length text) n) refl
+    where
+      go : (t : Bool) → leb (length text) n ≡ t → listing limits (take n text) ≡ listing limits text
+      go true e = ap (listing limits) (take-all n text (leb-true (length text) n e))
+      go false e =
+          let g = leb-false (length text) n e in
+          long-listed (take n text) (omega (arith, h, length-take-le n text (omega arith))) ∙ sym (long-listed text (omega (arith, h, g)))
 
 -- WHERE IT ENDS --------------------------------------------------------------------------------------------------------
 
@@ -92,7 +85,7 @@ first-bytes-listed text n h = go (leb (length text) n) refl
 abbrev Some : List ℕ → Type 0
 Some l = 1 ≤ length l
 
-lines-some : (inp : Input) (n : ℕ) (ws : List ℕ) (c : Cursor) → Each Some (lines-from inp n ws c)
+lines-some : (inp : Input) (n : ℕ) (ws : List ℕ) (c : Position) → Each Some (lines-from inp n ws c)
 unfolding lines-from
 lines-some inp n [] c = tt
 lines-some inp n (w ∷ ws) c = (line-some n w (c .spot .line) (c .spot .column), lines-some inp (suc n) ws (step inp w c))
@@ -102,7 +95,7 @@ unfolding left
 left-some text ts es l =
     let inp = input (take (l .bytes) text) (take (l .answer .tokens) ts) in
     let ws = drop (l .event) (take (l .answer .events) es) in
-    go (l .begun) (lines-from inp (l .event) ws (l .cursor)) (lines-some inp (l .event) ws (l .cursor))
+    go (l .begun) (lines-from inp (l .event) ws (l .position)) (lines-some inp (l .event) ws (l .position))
   where
     go : (t : Bool) (ls : List (List ℕ)) → Each Some ls → Each Some (cond t ls (first-line (l .answer) ∷ ls))
     go true ls x = x
@@ -120,6 +113,6 @@ empty-piece-is-the-end room text ts es l h e = none-given room (left text ts es 
 -- END TO END -----------------------------------------------------------------------------------------------------------
 
 -- From where `begin` stands, the pieces that `next_piece` gives in turn, with room for a line, are the listing of the text that was read.
-pub pieces-are-the-listing : {text ts es : List ℕ} {bytes : ℕ} {l : Listing} (room count : ℕ) (t : List ℕ) → Lists text bytes ts es l →
-    take bytes text ≡ take (length text) t → line-room ≤ room → length (left text ts es l) ≤ count → pieces room count (left text ts es l) ≡ listing base t
-pieces-are-the-listing {text} {ts} {es} {bytes} {l} room count t x e h g = pieces-are-all room count (left text ts es l) h g ∙ x .lists t e
+pub pieces-are-the-listing : {limits : Limits} {text ts es : List ℕ} {bytes : ℕ} {l : Listing} (room count : ℕ) (t : List ℕ) → Lists-within limits text bytes ts es l →
+    take bytes text ≡ take (length text) t → line-room ≤ room → length (left text ts es l) ≤ count → pieces room count (left text ts es l) ≡ listing limits t
+pieces-are-the-listing {limits} {text} {ts} {es} {bytes} {l} room count t x e h g = pieces-are-all room count (left text ts es l) h g ∙ x .lists t e

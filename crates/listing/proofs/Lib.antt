@@ -1,3 +1,3 @@
-pub mod CursorLaws
+pub mod PositionLaws
 pub mod PieceLaws
 pub mod EndToEnd

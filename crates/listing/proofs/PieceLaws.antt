@@ -12,10 +12,10 @@ use borrow.Author.Tests.{le-leb, lt-leb}
 use Rattle.parser.specs.Input.{Input}
 use Rattle.writing.specs.Written.{Wrote}
 use Rattle.writing.proofs.WriteLaws.{sets-append, wrote-long, wrote-none, wrote-then, wrote-same, wrote-front}
-use Rattle.listing.specs.declared.Cursor.{Cursor}
+use Rattle.listing.specs.declared.Position.{Position}
 use Rattle.listing.specs.declared.Listing.{Listing}
 use Rattle.lines.specs.Lines.{line-room, line-of, first-line}
-use Rattle.listing.specs.Cursors.{step, lines-from}
+use Rattle.listing.specs.Positions.{step, lines-from}
 use Rattle.listing.specs.Pieces.{joined, piece, behind, left, given, Gave}
 
 -- LINE BY LINE ---------------------------------------------------------------------------------------------------------
@@ -49,12 +49,12 @@ unfolding behind
 behind-none room ls e = ap (behind room) e ∙ sym e
 
 -- the lines of words from one on: that of the first, and the others
-pub lines-more : (inp : Input) (i : ℕ) (ws : List ℕ) (c : Cursor) → i < length ws →
+pub lines-more : (inp : Input) (i : ℕ) (ws : List ℕ) (c : Position) → i < length ws →
     lines-from inp i (drop i ws) c ≡ line-of i (getD ws i 0) (c .spot .line) (c .spot .column) ∷ lines-from inp (suc i) (drop (suc i) ws) (step inp (getD ws i 0) c)
 unfolding lines-from
 lines-more inp i ws c h = ap (λ (us : List ℕ). lines-from inp i us c) (drop-cons ws i 0 h)
 
-pub lines-none : (inp : Input) (i : ℕ) (ws : List ℕ) (c : Cursor) → length ws ≤ i → lines-from inp i (drop i ws) c ≡ []
+pub lines-none : (inp : Input) (i : ℕ) (ws : List ℕ) (c : Position) → length ws ≤ i → lines-from inp i (drop i ws) c ≡ []
 unfolding lines-from
 lines-none inp i ws c h = ap (λ (us : List ℕ). lines-from inp i us c) (drop-of-length-le ws {i = i} h)
 
@@ -148,11 +148,7 @@ gave-after {ls} {old} {mid} {at} {end} {rest} {new} l room h w g =
 pub gave-none : (ls : List (List ℕ)) (old : List ℕ) → length old < line-room → Gave (length old) 0 ls old 0 ls old
 gave-none ls old h =
     let p = piece-full (length old) ls h in
-    record {
-      wrote = wrote-same (wrote-none old 0 0 (omega arith)) (sym p);
-      whole = omega (arith, ap length p);
-      leaves = sym (behind-full (length old) ls h);
-    }
+    record { wrote = wrote-same (wrote-none old 0 0 (omega arith)) (sym p); whole = omega (arith, ap length p); leaves = sym (behind-full (length old) ls h) }
 
 -- The buffer's first bytes are the piece.
 pub gave-front : {room : ℕ} {ls : List (List ℕ)} {old : List ℕ} {end : ℕ} {rest : List (List ℕ)} {new : List ℕ} →

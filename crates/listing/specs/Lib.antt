@@ -1,2 +1,2 @@
-pub mod Cursors
+pub mod Positions
 pub mod Pieces

@@ -7,13 +7,15 @@ use mathlib.Core.List.{List, [], _∷_, _++_}
 use lib.ListN.{length, take, drop}
 use lib.Dec.{leb}
 use Rattle.aadl.specs.declared.Answer.{Answer}
+use Rattle.aadl.specs.declared.Limits.{Limits}
 use Rattle.aadl.specs.Limits.{base}
+use Rattle.aadl.specs.Encoding.{words-for}
 use Rattle.aadl.specs.Listing.{listing}
 use Rattle.parser.specs.Input.{input}
 use Rattle.writing.specs.Written.{Wrote}
 use Rattle.listing.specs.declared.Listing.{Listing}
 use Rattle.lines.specs.Lines.{line-room, first-line}
-use Rattle.listing.specs.Cursors.{begin, lines-from}
+use Rattle.listing.specs.Positions.{begin, lines-from}
 
 -- Lines end to end.
 abbrev pub joined : List (List ℕ) → List ℕ
@@ -34,16 +36,16 @@ unfoldable pub left : (text tokens events : List ℕ) → Listing → List (List
 left text ts es l =
     let a = l .answer in
     let inp = input (take (l .bytes) text) (take (a .tokens) ts) in
-    let lines = lines-from inp (l .event) (drop (l .event) (take (a .events) es)) (l .cursor) in
+    let lines = lines-from inp (l .event) (drop (l .event) (take (words-for (a .events)) es)) (l .position) in
     cond (l .begun) lines (first-line a ∷ lines)
 
 -- A listing before its first line: of the first bytes, as many as were read, with the answer of the section call and the token words that it left.
 abbrev pub before : (text : List ℕ) → (bytes : ℕ) → (tokens : List ℕ) → Answer → Listing
-before text n ts a = record { bytes = n; answer = a; begun = false; event = 0; cursor = begin (input (take n text) (take (a .tokens) ts)) }
+before text n ts a = record { bytes = n; answer = a; begun = false; event = 0; position = begin (input (take n text) (take (a .tokens) ts)) }
 
 -- A listing whose first line is given.
 abbrev pub given : Listing → Listing
-given l = record { bytes = l .bytes; answer = l .answer; begun = true; event = l .event; cursor = l .cursor }
+given l = record { bytes = l .bytes; answer = l .answer; begun = true; event = l .event; position = l .position }
 
 -- A piece of some lines is written over a buffer from a place on, with so much room behind it, and all of it has room; it ends at a place, and
 -- the other lines are left.
@@ -53,5 +55,8 @@ pub record Gave (room from : ℕ) (lines : List (List ℕ)) (old : List ℕ) (en
   pub leaves : rest ≡ behind room lines
 
 -- The lines that are left, end to end, are the listing of every text of which the first bytes, as many as were read, are all that has room.
-pub record Lists (text : List ℕ) (bytes : ℕ) (tokens events : List ℕ) (l : Listing) : Type 0 where
-  pub lists : (t : List ℕ) → take bytes text ≡ take (length text) t → joined (left text tokens events l) ≡ listing base t
+pub record Lists-within (limits : Limits) (text : List ℕ) (bytes : ℕ) (tokens events : List ℕ) (l : Listing) : Type 0 where
+  pub lists : (t : List ℕ) → take bytes text ≡ take (length text) t → joined (left text tokens events l) ≡ listing limits t
+
+abbrev pub Lists : (text : List ℕ) → (bytes : ℕ) → (tokens events : List ℕ) → Listing → Type 0
+Lists = Lists-within base

@@ -1,12 +1,15 @@
 // The listing of a text, whole: `begin` makes the section call, `next_piece` gives the next bytes, and the pieces end to end are 01's listing
 // (proofs/EndToEnd). A program reads, asks for pieces and writes them; all that lies between is here.
 use aadl::Answer;
+use aadl::Limits;
+use codec::class_in;
+use lexer::BASE;
 use lines::put_first;
 use lines::put_line;
 use parser::Parser;
 use parser::new;
 use parser::pass;
-use section::property_section;
+use section::property_section_within;
 use spots::Spot;
 use spots::first_spot;
 use spots::spot_at;
@@ -14,11 +17,11 @@ use writing::least;
 ghost use Prim.Native.Nat.{_-_, _≤_};
 ghost use mathlib.Core.Path.{_≡_};
 ghost use lib.ListN.{length, take, drop};
-ghost use Rattle.aadl.specs.Limits.{base};
+ghost use Rattle.aadl.specs.Limits.{base, Allowed};
 ghost use Rattle.aadl.specs.Answers.{section-answer, token-words, event-words, left-in};
 ghost use Rattle.parser.specs.Input.{input};
-ghost use Rattle.listing.specs.Cursors.{begin as begin-at, step, lines-from};
-ghost use Rattle.listing.specs.Pieces.{left, before, given, Gave, Lists};
+ghost use Rattle.listing.specs.Positions.{begin as begin-at, step, lines-from};
+ghost use Rattle.listing.specs.Pieces.{left, before, given, Gave, Lists-within, Lists};
 
 // How many bytes of a text are read: one more than may be, so that a longer text is refused for that one.
 pub const READ: usize = 32769;
@@ -32,7 +35,7 @@ pub const EVENTS: usize = 8192;
 const LINE: usize = 80;
 
 // Where a listing stands among the events: the parser behind the tokens that were taken, and the spot of the next one.
-pub struct Cursor {
+pub struct Position {
     pub parser: Parser,
     pub spot: Spot,
 }
@@ -43,7 +46,7 @@ pub struct Listing {
     pub answer: Answer,
     pub begun: bool,
     pub event: usize,
-    pub cursor: Cursor,
+    pub position: Position,
 }
 
 // Bytes of a listing, as many as are counted, and where it stands behind them.
@@ -52,34 +55,34 @@ pub struct Piece {
     pub listing: Listing,
 }
 
-// Behind some events: how far the bytes are written, the next event, and the cursor before it.
+// Behind some events: how far the bytes are written, the next event, and the position before it.
 struct Reached {
     at: usize,
     event: usize,
-    cursor: Cursor,
+    position: Position,
 }
 
 // Before the first event.
-fn first_cursor(src: &[u8], toks: &[u32]) -> Cursor
+fn first_position(src: &[u8], toks: &[u32]) -> Position
     ensures { λ r. ⌜ r ≡ begin-at (input (now (src .entry)) (now (toks .entry))) ⌝ }
 {
-    let p = new(src, toks, 64);
+    let p = new(src, toks, 0);
     let s = spot_at(src, first_spot(), p.byte);
-    Cursor { parser: p, spot: s }
+    Position { parser: p, spot: s }
 }
 
 // After the event of a word. A Token's takes a token.
-fn next_cursor(src: &[u8], toks: &[u32], word: u32, c: Cursor) -> Cursor
+fn next_position(src: &[u8], toks: &[u32], word: u32, c: Position) -> Position
     ensures { λ r. ⌜ r ≡ step (input (now (src .entry)) (now (toks .entry))) word c ⌝ }
 {
     let p = c.parser;
     let s = c.spot;
-    if word / 16777216 == 1 {
+    if class_in(word) == 1 {
         let q = pass(src, toks, p);
         let t = spot_at(src, s, q.byte);
-        return Cursor { parser: q, spot: t };
+        return Position { parser: q, spot: t };
     }
-    Cursor { parser: p, spot: s }
+    Position { parser: p, spot: s }
 }
 
 // Writes the lines of events from one on, while there is room for a line.
@@ -88,27 +91,27 @@ fn put_lines(
     toks: &[u32],
     words: &[u32],
     event: usize,
-    cursor: Cursor,
+    position: Position,
     out: &mut [u8],
     from: usize,
 ) -> Reached
     requires { ⌜ from ≤ length (now out) ⌝ }
-    ensures { λ r. ⌜ Gave (length (now (out .entry)) - from) from (lines-from (input (now (src .entry)) (now (toks .entry))) event (drop event (now (words .entry))) cursor) (now (out .entry)) (r .at) (lines-from (input (now (src .entry)) (now (toks .entry))) (r .event) (drop (r .event) (now (words .entry))) (r .cursor)) (now (out .exit)) ⌝ }
+    ensures { λ r. ⌜ Gave (length (now (out .entry)) - from) from (lines-from (input (now (src .entry)) (now (toks .entry))) event (drop event (now (words .entry))) position) (now (out .entry)) (r .at) (lines-from (input (now (src .entry)) (now (toks .entry))) (r .event) (drop (r .event) (now (words .entry))) (r .position)) (now (out .exit)) ⌝ }
 {
     let mut at = from;
     let mut i = event;
-    let mut c = cursor;
+    let mut c = position;
     while i < words.len() && LINE <= out.len() - at {
         let w = words[i];
         let s = c.spot;
         at = put_line(out, at, i, w, s);
-        c = next_cursor(src, toks, w, c);
+        c = next_position(src, toks, w, c);
         i += 1;
     }
     Reached {
         at,
         event: i,
-        cursor: c,
+        position: c,
     }
 }
 
@@ -125,7 +128,7 @@ fn more(
     ensures { λ r. ⌜ Gave (length (now (out .entry)) - from) from (left (now (text .entry)) (now (tokens .entry)) (now (events .entry)) (given l)) (now (out .entry)) (r .count) (left (now (text .entry)) (now (tokens .entry)) (now (events .entry)) (r .listing)) (now (out .exit)) ⌝ }
 {
     let a = l.answer;
-    let c = l.cursor;
+    let c = l.position;
     let text: &[u8] = text;
     let tokens: &[u32] = tokens;
     let events: &[u32] = events;
@@ -141,7 +144,7 @@ fn more(
         out,
         from,
     );
-    let d = r.cursor;
+    let d = r.position;
     Piece {
         count: r.at,
         listing: Listing {
@@ -149,7 +152,7 @@ fn more(
             answer: a,
             begun: true,
             event: r.event,
-            cursor: d,
+            position: d,
         },
     }
 }
@@ -178,6 +181,37 @@ pub fn next_piece(
     more(text, tokens, events, l, out, at)
 }
 
+// Makes the section call within limits on the first bytes of a text, as many as were read, with the words that are lent, and stands before the
+// first line: for every text of which these are the bytes that have room, the lines that are left are its listing.
+fn begin_within(
+    text: &[u8; READ],
+    bytes: usize,
+    tokens: &mut [u32; TOKENS],
+    events: &mut [u32; EVENTS],
+    limits: Limits,
+) -> Listing
+    requires { ⌜ Allowed limits ⌝ }
+    ensures stands { λ r. ⌜ r ≡ before (now (text .entry)) bytes (now (tokens .exit)) (section-answer limits (take bytes (now (text .entry))) 16384 8192) ⌝ }
+    ensures token_words { λ r. ⌜ now (tokens .exit) ≡ left-in (section-answer limits (take bytes (now (text .entry))) 16384 8192) (token-words (take bytes (now (text .entry)))) (now (tokens .entry)) ⌝ }
+    ensures event_words { λ r. ⌜ now (events .exit) ≡ left-in (section-answer limits (take bytes (now (text .entry))) 16384 8192) (event-words limits (take bytes (now (text .entry)))) (now (events .entry)) ⌝ }
+    ensures lists { λ r. ⌜ Lists-within limits (now (text .entry)) bytes (now (tokens .exit)) (now (events .exit)) r ⌝ }
+{
+    let text: &[u8] = text;
+    let n = least(bytes, READ);
+    let src = &text[..n];
+    let a = property_section_within(src, tokens, events, limits);
+    let t = least(a.tokens, TOKENS);
+    let toks: &[u32] = tokens;
+    let c = first_position(src, &toks[..t]);
+    Listing {
+        bytes,
+        answer: a,
+        begun: false,
+        event: 0,
+        position: c,
+    }
+}
+
 // Makes the section call on the first bytes of a text, as many as were read, with the words that are lent, and stands before the first line: for every
 // text of which these are the bytes that have room, the lines that are left are its listing.
 pub fn begin(
@@ -191,18 +225,5 @@ pub fn begin(
     ensures event_words { λ r. ⌜ now (events .exit) ≡ left-in (section-answer base (take bytes (now (text .entry))) 16384 8192) (event-words base (take bytes (now (text .entry)))) (now (events .entry)) ⌝ }
     ensures lists { λ r. ⌜ Lists (now (text .entry)) bytes (now (tokens .exit)) (now (events .exit)) r ⌝ }
 {
-    let text: &[u8] = text;
-    let n = least(bytes, READ);
-    let src = &text[..n];
-    let a = property_section(src, tokens, events);
-    let t = least(a.tokens, TOKENS);
-    let toks: &[u32] = tokens;
-    let c = first_cursor(src, &toks[..t]);
-    Listing {
-        bytes,
-        answer: a,
-        begun: false,
-        event: 0,
-        cursor: c,
-    }
+    begin_within(text, bytes, tokens, events, BASE)
 }

@@ -6,7 +6,7 @@ use mathlib.Core.Path.{_≡_, refl, sym, ap, subst, _∙_}
 use mathlib.Core.Bool.{Bool, true, false}
 use mathlib.Core.Logic.{_⊎_, inl, inr}
 use mathlib.Core.List.{List, [], _∷_, _++_, append-assoc, append-nil}
-use lib.ListN.{length, length-set, length-append}
+use lib.ListN.{length, length-append}
 use borrow.Author.Tests.{eq-eqb, ne-eqb}
 use Rattle.predictive.specs.Forest.{Forest, nil, err, wrap}
 use Rattle.predictive.specs.Grammar.{Head, at, Part, leaning}
@@ -17,7 +17,6 @@ use Rattle.predictive.proofs.Lookahead.{single}
 use Rattle.predictive.proofs.Readings.{reading-whole}
 use Rattle.predictive.proofs.EventLaws.{length-events}
 use Rattle.predictive.proofs.Takes.{wrapped, takes}
-use Rattle.aadl.specs.Reading.{event-word}
 use Rattle.aadl.specs.Section.{Rule, grammar}
 use Rattle.parser.specs.declared.Parser.{Parser}
 use Rattle.parser.specs.declared.Started.{Started}
@@ -28,9 +27,9 @@ use Rattle.parser.specs.Input.{Input, rest}
 use Rattle.parser.specs.State.{precede}
 use Rattle.parser.specs.Reads.{stands, heads-of, reading-at, Became, Read, ReadOperand, marked, Starts, Completes}
 use Rattle.parser.proofs.Pushing.{goes-or-stopped}
-use Rattle.parser.proofs.Counters.{advance-left}
-use Rattle.parser.proofs.Emitted.{emitted-goes, emitted-used, emitted-completed, preceded-rest}
-use Rattle.parser.proofs.Join.{became-emitted, became-goes, became-left, became-no-more, rest-finished, stands-goes, stands-at}
+use Rattle.parser.proofs.Buffer.{named-below}
+use Rattle.parser.proofs.Emitted.{emitted-goes, emitted-used, emitted-left, emitted-completed, preceded-rest}
+use Rattle.parser.proofs.Join.{became-goes, became-left, became-no-more, rest-finished, stands-goes, stands-at}
 use Rattle.parser.proofs.Loops.{μ, remains, took-one}
 use Rattle.parser.proofs.Turns.{stopped-within, turned}
 use Rattle.parser.proofs.Nodes.{Found, found, marker-found, Missing, missing, nothing-missing}
@@ -120,7 +119,7 @@ module _ {inp : Input} {d k : ℕ} {P Q : Part Rule} {p₀ : Parser} {b₀ : Lis
   unfolding read step
   c-holds {m} s x =
       let y = x .reads .did (suc (length (rest inp p₀))) (omega arith) in
-      record { on = go; off = stopped-first k Q s (x .reads); no-more = became-no-more y; left = became-left y; long = y .long }
+      record { on = go; off = stopped-first k Q s (x .reads); no-more = became-no-more y; left = became-left y; long = y .emitted .long }
     where
       go : (n : ℕ) → length (rest inp p₀) < n → p .stop ≡ 0 → Linked inp n d k P Q p₀ b₀ p b (m .0)
       go n l h = by (reading-at inp n d P p₀) refl (x .reads .did n l) (marker-found (p .used) m _ (x .mark n l (became-goes (x .reads .did n l) h) h))
@@ -216,7 +215,7 @@ module _ {inp : Input} {d k : ℕ} {P Q : Part Rule} {p₀ : Parser} {b₀ : Lis
       stood = ap (at (heads-of Q)) (sym (x .so-far .ends (became-goes (x .so-far) goes) goes)) ∙ stands-at inp (heads-of Q) p a goes
 
       used : p .used ≡ p₀ .used + length (events (x .forest) 0)
-      used = emitted-used (became-emitted (x .so-far)) goes
+      used = emitted-used (x .so-far .emitted) goes
 
       made : (new : Forest) (zs : List ℕ) (i : ℕ) → length (rest inp p) < suc i → Became inp (done (wrap k (x .forest) new nil) zs) p₀ b₀ (r .p) g →
           reading-at inp n d (leaning k P Q) p₀ ≡ leaned n d k Q i (wrap k (x .forest) new nil) zs → Fresh inp n d k P Q p₀ b₀ p (r .p) g
@@ -237,7 +236,7 @@ module _ {inp : Input} {d k : ℕ} {P Q : Part Rule} {p₀ : Parser} {b₀ : Lis
         arith,
         u .mark ∙ y .mark,
         f .before,
-        emitted-used (became-emitted (f .so-far)) i,
+        emitted-used (f .so-far .emitted) i,
         length-append (events (f .old) (behind-start (f .old)) ++ start k 0 ∷ events (f .new) 0) (finish ∷ []),
         length-append (events (f .old) (behind-start (f .old))) (start k 0 ∷ events (f .new) 0),
         length-events (f .old) (behind-start (f .old)) 0,
@@ -253,8 +252,8 @@ module _ {inp : Input} {d k : ℕ} {P Q : Part Rule} {p₀ : Parser} {b₀ : Lis
         on = on;
         off = off;
         no-more = omega (arith, x .no-more, became-no-more w, ap length (rest-finished v), ap length (preceded-rest inp m y .0));
-        left = ap (λ (j : Parser). j .left) (v .parser) ∙ advance-left inp _ (finish ∷ []) q ∙ became-left w ∙ preceded-rest inp m y .1 ∙ x .left;
-        long = v .long ∙ length-set e (s .m .0) (event-word (start k 0)) ∙ w .long ∙ preceded-rest inp m y .2 ∙ x .long;
+        left = emitted-left v ∙ became-left w ∙ preceded-rest inp m y .1 ∙ x .left;
+        long = v .long ∙ named-below (s .m .0) k .long e ∙ w .emitted .long ∙ preceded-rest inp m y .2 ∙ x .long;
       }
     where
       now-fresh : (n : ℕ) → length (rest inp p₀) < n → Fresh inp n d k P Q p₀ b₀ p (r .p) g

@@ -1,6 +1,6 @@
 -- What events leave of the counters: the openers left stay, what remains never grows and falls by a token taken, and a parser that
 -- stopped stays. By induction over the events, each a case of `step-on`. Assumes nothing.
-use Prim.Native.Nat.{ℕ, _-_, _≤_}
+use Prim.Native.Nat.{ℕ, _-_, _≤_, max}
 use native.Mathlib.Omega.{arith}
 use mathlib.Core.Path.{_≡_, refl, sym, ap, subst, _∙_}
 use mathlib.Core.Bool.{Bool, true, false, cond}
@@ -9,55 +9,44 @@ use mathlib.Core.List.{List, [], _∷_}
 use lib.ListN.{length}
 use lib.Dec.{eqb, ltb}
 use borrow.Author.Tests.{eq-eqb, ne-eqb, eqb-false}
-use Rattle.predictive.specs.Forest.{message, nested}
+use Rattle.predictive.specs.Forest.{message, refusal}
 use Rattle.predictive.specs.Events.{Event, start, token, finish, error, taken}
 use Rattle.parser.specs.declared.Parser.{Parser}
 use Rattle.parser.specs.Input.{Input, rest}
-use Rattle.parser.specs.State.{state, with-left, stopped, pushed, passed}
+use Rattle.parser.specs.State.{state, with-stop, passed}
 use Rattle.predictive.proofs.Tests.{never}
 use Rattle.predictive.proofs.EventLaws.{taken-append}
 use Rattle.parser.proofs.Trivia.{tail, rest-after-one}
-use Rattle.parser.proofs.Pushing.{goes-or-stopped}
+use Rattle.parser.proofs.Pushing.{both-ways, goes-or-stopped}
 use Rattle.parser.proofs.Emit.{counted, moved, one-on, step-on, advance}
 
 module _ (inp : Input) where
   -- OPENERS LEFT -------------------------------------------------------------------------------------------------------
 
   counted-left : (n : ℕ) (p : Parser) → counted inp n p .left ≡ p .left
-  counted-left n p = go (ltb (p .used) n)
-    where
-      go : (t : Bool) → cond t (pushed 0 (state p []) .parser) (stopped 5 (state p []) .parser) .left ≡ p .left
-      go true = refl
-      go false = refl
+  counted-left n p = both-ways (λ (q : Parser). q .left ≡ p .left) (ltb (p .used) n) refl refl
 
   counted-rest : (n : ℕ) (p : Parser) → rest inp (counted inp n p) ≡ rest inp p
   unfolding rest
-  counted-rest n p = go (ltb (p .used) n)
-    where
-      go : (t : Bool) → rest inp (cond t (pushed 0 (state p []) .parser) (stopped 5 (state p []) .parser)) ≡ rest inp p
-      go true = refl
-      go false = refl
+  counted-rest n p = both-ways (λ (q : Parser). rest inp q ≡ rest inp p) (ltb (p .used) n) refl refl
 
   moved-left : (p : Parser) → moved inp p .left ≡ p .left
-  moved-left p = go (eqb (p .stop) 0)
-    where
-      go : (t : Bool) → cond t (passed inp (state p []) .parser) p .left ≡ p .left
-      go true = refl
-      go false = refl
+  moved-left p = both-ways (λ (q : Parser). q .left ≡ p .left) (eqb (p .stop) 0) refl refl
+
+  -- What holds of the counters after an event that is pushed, of a Token's and of a refusal's, holds of every event's.
+  one-elim : (C : Event → Parser → Type 0) (n : ℕ) (p : Parser) → ((e : Event) → C e (counted inp n p)) → ((k : ℕ) → C (token k) (moved inp (counted inp n p))) →
+      ((r : ℕ) → C (error (refusal r)) (with-stop (max 1 r) p)) → (e : Event) → C e (one-on inp n e p)
+  one-elim C n p a b c (start k up) = a (start k up)
+  one-elim C n p a b c (token k) = b k
+  one-elim C n p a b c finish = a finish
+  one-elim C n p a b c (error (message m)) = a (error (message m))
+  one-elim C n p a b c (error (refusal r)) = c r
 
   one-left : (n : ℕ) (e : Event) (p : Parser) → one-on inp n e p .left ≡ p .left
-  one-left n (start k up) p = counted-left n p
-  one-left n (token k) p = moved-left (counted inp n p) ∙ counted-left n p
-  one-left n finish p = counted-left n p
-  one-left n (error (message m)) p = counted-left n p
-  one-left n (error nested) p = refl
+  one-left n e p = one-elim (λ e q. q .left ≡ p .left) n p (λ e. counted-left n p) (λ k. moved-left (counted inp n p) ∙ counted-left n p) (λ r. refl) e
 
   step-left : (n : ℕ) (e : Event) (p : Parser) → step-on inp n e p .left ≡ p .left
-  step-left n e p = go (eqb (p .stop) 0)
-    where
-      go : (t : Bool) → cond t (one-on inp n e p) p .left ≡ p .left
-      go true = one-left n e p
-      go false = refl
+  step-left n e p = both-ways (λ (q : Parser). q .left ≡ p .left) (eqb (p .stop) 0) (one-left n e p) refl
 
   -- The openers left stay.
   pub advance-left : (n : ℕ) (es : List Event) (p : Parser) → advance inp n es p .left ≡ p .left
@@ -96,7 +85,7 @@ module _ (inp : Input) where
   one-fewer n (token k) p h = omega (arith, moved-fewer (counted inp n p) h, ap length (counted-rest n p))
   one-fewer n finish p h = omega (arith, ap length (counted-rest n p))
   one-fewer n (error (message m)) p h = omega (arith, ap length (counted-rest n p))
-  one-fewer n (error nested) p h = omega arith
+  one-fewer n (error (refusal r)) p h = omega arith
 
   step-fewer : (n : ℕ) (e : Event) (p : Parser) → step-on inp n e p .stop ≡ 0 → Fewer (taken (e ∷ [])) p (step-on inp n e p)
   step-fewer n e p = go (eqb (p .stop) 0) refl
@@ -135,18 +124,12 @@ module _ (inp : Input) where
 
   one-no-more : (n : ℕ) (e : Event) (p : Parser) → Fewer 0 p (one-on inp n e p)
   unfolding rest
-  one-no-more n (start k up) p = omega (arith, ap length (counted-rest n p))
-  one-no-more n (token k) p = omega (arith, moved-no-more (counted inp n p), ap length (counted-rest n p))
-  one-no-more n finish p = omega (arith, ap length (counted-rest n p))
-  one-no-more n (error (message m)) p = omega (arith, ap length (counted-rest n p))
-  one-no-more n (error nested) p = omega arith
+  one-no-more n e p =
+      one-elim (λ e q. Fewer 0 p q) n p (λ e. omega (arith, ap length (counted-rest n p)))
+      (λ k. omega (arith, moved-no-more (counted inp n p), ap length (counted-rest n p))) (λ r. omega arith) e
 
   step-no-more : (n : ℕ) (e : Event) (p : Parser) → Fewer 0 p (step-on inp n e p)
-  step-no-more n e p = go (eqb (p .stop) 0)
-    where
-      go : (t : Bool) → Fewer 0 p (cond t (one-on inp n e p) p)
-      go true = one-no-more n e p
-      go false = omega arith
+  step-no-more n e p = both-ways (Fewer 0 p) (eqb (p .stop) 0) (one-no-more n e p) (omega arith)
 
   pub advance-no-more : (n : ℕ) (es : List Event) (p : Parser) → length (rest inp (advance inp n es p)) ≤ length (rest inp p)
   unfolding advance
@@ -166,45 +149,8 @@ module _ (inp : Input) where
   one-stays n (token k) p t = never t
   one-stays n finish p t = counted-rest n p
   one-stays n (error (message m)) p t = counted-rest n p
-  one-stays n (error nested) p t = refl
+  one-stays n (error (refusal r)) p t = refl
 
   pub one-rest : (n : ℕ) (e : Event) (p : Parser) → takes-none e ≡ true → rest inp (advance inp n (e ∷ []) p) ≡ rest inp p
   unfolding advance
-  one-rest n e p t = go (eqb (p .stop) 0)
-    where
-      go : (u : Bool) → rest inp (cond u (one-on inp n e p) p) ≡ rest inp p
-      go true = one-stays n e p t
-      go false = refl
-
-  -- ANOTHER LEVEL ------------------------------------------------------------------------------------------------------
-
-  counted-raised : (n l : ℕ) (p : Parser) → counted inp n (with-left l p) ≡ with-left l (counted inp n p)
-  counted-raised n l p = go (ltb (p .used) n)
-    where
-      go : (t : Bool) → cond t (pushed 0 (state (with-left l p) []) .parser) (stopped 5 (state (with-left l p) []) .parser) ≡ with-left l (cond t (pushed 0 (state p []) .parser) (stopped 5 (state p []) .parser))
-      go true = refl
-      go false = refl
-
-  moved-raised : (l : ℕ) (p : Parser) → moved inp (with-left l p) ≡ with-left l (moved inp p)
-  moved-raised l p = go (eqb (p .stop) 0)
-    where
-      go : (t : Bool) → cond t (passed inp (state (with-left l p) []) .parser) (with-left l p) ≡ with-left l (cond t (passed inp (state p []) .parser) p)
-      go true = refl
-      go false = refl
-
-  one-raised : (n l : ℕ) (e : Event) (p : Parser) → one-on inp n e (with-left l p) ≡ with-left l (one-on inp n e p)
-  one-raised n l (start k up) p = counted-raised n l p
-  one-raised n l (token k) p = ap (moved inp) (counted-raised n l p) ∙ moved-raised l (counted inp n p)
-  one-raised n l finish p = counted-raised n l p
-  one-raised n l (error (message m)) p = counted-raised n l p
-  one-raised n l (error nested) p = refl
-
-  -- The openers left do not matter to events.
-  pub advance-raised : (n l : ℕ) (es : List Event) (p : Parser) → advance inp n es (with-left l p) ≡ with-left l (advance inp n es p)
-  unfolding advance
-  advance-raised n l [] p = refl
-  advance-raised n l (e ∷ es) p = ap (advance inp n es) (go (eqb (p .stop) 0)) ∙ advance-raised n l es (step-on inp n e p)
-    where
-      go : (t : Bool) → cond t (one-on inp n e (with-left l p)) (with-left l p) ≡ with-left l (cond t (one-on inp n e p) p)
-      go true = one-raised n l e p
-      go false = refl
+  one-rest n e p t = both-ways (λ (q : Parser). rest inp q ≡ rest inp p) (eqb (p .stop) 0) (one-stays n e p t) refl

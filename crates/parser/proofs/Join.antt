@@ -1,71 +1,54 @@
 -- How readings join: for each way in which parts are put together, what is read where the pieces were read. A reader's proof is one
--- of these laws for each of its statements. Assumes nothing.
+-- of these laws for each of its statements. Here and in the files above, a law's prefix says what it gives: `r-` a reading (`Read`),
+-- `n-` a node with its marker (`ReadNode`), `o-` an operand (`ReadOperand`), `x-` a suffix after one, `c-` a left-leaning chain, `w-` a
+-- loop, `due-` a loop with separators; `emitted-` speaks of events that were pushed, `became-` of a result that was. Assumes nothing.
 use Prim.Native.Nat.{ℕ, zero, suc, _-_, _≤_, _<_}
 use native.Mathlib.Omega.{arith}
 use mathlib.Core.Path.{_≡_, refl, sym, ap, subst, _∙_}
 use mathlib.Core.Bool.{Bool, true, false, cond, or-false}
 use mathlib.Core.List.{List, [], _∷_}
-use lib.ListN.{length, set}
+use lib.ListN.{length}
 use lib.Dec.{eqb}
 use borrow.Author.Tests.{eq-eqb, eqb-true}
-use Rattle.predictive.specs.Forest.{nil, nested}
+use Rattle.predictive.specs.Forest.{nil, refusal}
 use Rattle.predictive.specs.Grammar.{Head, one, is, at, Choice, Part, tok, seq, either, opt, until, inside, opens, rule}
 use Rattle.predictive.specs.Reader.{Result, miss, done, pick, expected, within, step, below, read, first}
 use Rattle.predictive.specs.Events.{Event, start, finish, events, events-of, left-over}
 use Rattle.predictive.proofs.Tests.{never}
 use Rattle.predictive.proofs.Heads.{at-append, in-l}
 use Rattle.predictive.proofs.Takes.{both, both-events, both-left, boxed, boxed-events, boxed-left}
-use Rattle.aadl.specs.Reading.{event-word}
 use Rattle.aadl.specs.Section.{Rule, rules, firsts, grammar}
 use Rattle.parser.specs.declared.Parser.{Parser}
 use Rattle.parser.specs.declared.Started.{Started}
 use Rattle.parser.specs.declared.Completed.{Completed}
 use Rattle.parser.specs.Input.{Input, rest}
-use Rattle.parser.specs.State.{State, state, room, with-left, push, halt, enter, emit}
-use Rattle.parser.specs.Reads.{stands, heads-of, reading-at, Became, Read, Ran, Starts, Completes, ReadNode}
+use Rattle.parser.specs.Buffer.{room, named}
+use Rattle.parser.specs.State.{State, state, with-left, push, halt, enter, emit}
+use Rattle.parser.specs.Reads.{stands, heads-of, reading-at, Emitted, Became, Read, Ran, Starts, Completes, ReadNode}
 use Rattle.parser.proofs.Pushing.{halt-stops}
-use Rattle.parser.proofs.Emit.{advance, emit-advance, emit-went}
-use Rattle.parser.proofs.Counters.{advance-left, advance-no-more, advance-raised, one-rest}
-use Rattle.parser.proofs.Emitted.{Emitted, emitted, emitted-goes, emitted-append, emitted-either, emitted-restart, emitted-started, emitted-completed}
+use Rattle.parser.proofs.Emit.{advance}
+use Rattle.parser.proofs.Counters.{advance-no-more, one-rest}
+use Rattle.parser.proofs.Emitted.{emitted, emitted-goes, emitted-advance, emitted-append, emitted-either, emitted-named, emitted-raised, emitted-started, emitted-completed, emitted-left}
 
 -- WHAT CAME OF A READING -----------------------------------------------------------------------------------------------
 
-module _ {inp : Input} {o : Result} {p : Parser} {b : List ℕ} {r : Parser} {c : List ℕ} where
-  pub became : Emitted inp (events-of o) p b r c → (p .stop ≡ 0 → r .stop ≡ 0 → rest inp r ≡ left-over o) → Became inp o p b r c
-  became x e =
-      let q : r ≡ emit inp (events-of o) (state p b) .parser = x .parser ∙ sym (emit-advance inp (events-of o) (state p b)) in
-      record {
-        parser = q;
-        words = λ h. x .words h ∙ sym (emit-went inp (events-of o) (state p b) (ap (λ (t : Parser). t .stop) (sym q) ∙ h) .words);
-        long = x .long;
-        ends = e;
-      }
+module _ {inp : Input} {o : Result} {p : Parser} {b : List ℕ} {r : Parser} {c : List ℕ} (x : Became inp o p b r c) where
+  pub became-goes : r .stop ≡ 0 → p .stop ≡ 0
+  became-goes h = emitted-goes (x .emitted) h
 
-  pub became-emitted : Became inp o p b r c → Emitted inp (events-of o) p b r c
-  became-emitted x =
-      record {
-        parser = x .parser ∙ emit-advance inp (events-of o) (state p b);
-        words = λ h. x .words h ∙ emit-went inp (events-of o) (state p b) (ap (λ (t : Parser). t .stop) (sym (x .parser)) ∙ h) .words;
-        long = x .long;
-      }
+  pub became-left : r .left ≡ p .left
+  became-left = emitted-left (x .emitted)
 
-  module _ (x : Became inp o p b r c) where
-    pub became-goes : r .stop ≡ 0 → p .stop ≡ 0
-    became-goes h = emitted-goes (became-emitted x) h
-
-    pub became-left : r .left ≡ p .left
-    became-left = ap (λ (t : Parser). t .left) (became-emitted x .parser) ∙ advance-left inp (room b) (events-of o) p
-
-    pub became-no-more : length (rest inp r) ≤ length (rest inp p)
-    became-no-more =
-        subst (λ (t : Parser). length (rest inp t) ≤ length (rest inp p)) (sym (became-emitted x .parser))
-        (advance-no-more inp (room b) (events-of o) p)
+  pub became-no-more : length (rest inp r) ≤ length (rest inp p)
+  became-no-more =
+      subst (λ (t : Parser). length (rest inp t) ≤ length (rest inp p)) (sym (emitted-advance (x .emitted)))
+      (advance-no-more inp (room b) (events-of o) p)
 
 -- The same by another result, equal where the parser goes on.
 pub became-same : {inp : Input} {o t : Result} {p : Parser} {b : List ℕ} {r : Parser} {c : List ℕ} → (p .stop ≡ 0 → o ≡ t) →
     Became inp o p b r c → Became inp t p b r c
 became-same {inp} {o} {t} {p} e x =
-    became (emitted-either (λ g. ap events-of (e g)) (became-emitted x)) (λ g h. x .ends g h ∙ ap left-over (e g))
+    record { emitted = emitted-either (λ g. ap events-of (e g)) (x .emitted); ends = λ g h. x .ends g h ∙ ap left-over (e g) }
 
 module _ {inp : Input} {p : Parser} {b : List ℕ} {r : Parser} {c : List ℕ} where
   pub r-same : {d e : ℕ} {P Q : Part Rule} → ((n : ℕ) → p .stop ≡ 0 → reading-at inp n d P p ≡ reading-at inp n e Q p) → Read inp d P p b r c →
@@ -76,7 +59,7 @@ module _ {inp : Input} {p : Parser} {b : List ℕ} {r : Parser} {c : List ℕ} w
   read-left x = became-left (x .did (suc (length (rest inp p))) (omega arith))
 
   pub read-long : {d : ℕ} {P : Part Rule} → Read inp d P p b r c → length c ≡ length b
-  read-long x = x .did (suc (length (rest inp p))) (omega arith) .long
+  read-long x = x .did (suc (length (rest inp p))) (omega arith) .emitted .long
 
   pub at-level : {d e : ℕ} {P : Part Rule} → d ≡ e → Read inp d P p b r c → Read inp e P p b r c
   at-level {d} {e} {P} q x = subst (λ (n : ℕ). Read inp n P p b r c) q x
@@ -87,10 +70,12 @@ module _ {inp : Input} {p : Parser} {b : List ℕ} {r : Parser} {c : List ℕ} w
 pub became-both : {inp : Input} {o t : Result} {p : Parser} {b : List ℕ} {q : Parser} {c : List ℕ} {r : Parser} {d : List ℕ} (k : List ℕ → Result) →
     Became inp o p b q c → Became inp t q c r d → (q .stop ≡ 0 → t ≡ k (left-over o)) → Became inp (both o k) p b r d
 became-both {inp} {o} {t} {p} {b} {q} {c} {r} {d} k x y e =
-    became
-    (subst (λ (es : List Event). Emitted inp es p b r d) (sym (both-events o k))
-    (emitted-append (became-emitted x) (became-emitted y) (λ h. ap events-of (e h))))
-    (λ g h. let m = became-goes y h in y .ends m h ∙ ap left-over (e m) ∙ sym (both-left o k))
+    record {
+      emitted =
+          subst (λ (es : List Event). Emitted inp es p b r d) (sym (both-events o k))
+          (emitted-append (x .emitted) (y .emitted) (λ h. ap events-of (e h)));
+      ends = λ g h. let m = became-goes y h in y .ends m h ∙ ap left-over (e m) ∙ sym (both-left o k);
+    }
 
 pub r-seq : {inp : Input} {d : ℕ} {P Q : Part Rule} {p : Parser} {b : List ℕ} {q : Parser} {c : List ℕ} {r : Parser} {e : List ℕ} →
     Read inp d P p b q c → Read inp d Q q c r e → Read inp d (seq P Q) p b r e
@@ -121,7 +106,7 @@ module _ (inp : Input) (hs : List Head) (p : Parser) where
 -- Nothing is read.
 pub became-nothing : {inp : Input} {p : Parser} {b : List ℕ} → Became inp (done nil (rest inp p)) p b p b
 unfolding events-of left-over events emit
-became-nothing = record { parser = refl; words = λ h. refl; long = refl; ends = λ g h. refl }
+became-nothing = record { emitted = emitted refl; ends = λ g h. refl }
 
 module _ {inp : Input} {d : ℕ} {c : Choice} {P : Part Rule} {p : Parser} {b : List ℕ} where
   pub r-opt-yes : {r : Parser} {e : List ℕ} → stands inp (heads-of P) p ≡ true → Read inp d P p b r e → Read inp d (opt c P) p b r e
@@ -183,14 +168,14 @@ module _ {inp : Input} where
   -- pushing a Start or a Finish moves nothing on
   pub rest-started : {p : Parser} {b : List ℕ} {q : Parser} {c : List ℕ} {k up : ℕ} → Emitted inp (start k up ∷ []) p b q c → rest inp q ≡ rest inp p
   unfolding advance
-  rest-started {p} {b} {k = k} {up = up} x = ap (rest inp) (x .parser) ∙ one-rest inp (room b) (start k up) p refl
+  rest-started {p} {b} {k = k} {up = up} x = ap (rest inp) (emitted-advance x) ∙ one-rest inp (room b) (start k up) p refl
 
   pub rest-finished : {p : Parser} {b : List ℕ} {q : Parser} {c : List ℕ} → Emitted inp (finish ∷ []) p b q c → rest inp q ≡ rest inp p
   unfolding advance
-  rest-finished {p} {b} x = ap (rest inp) (x .parser) ∙ one-rest inp (room b) finish p refl
+  rest-finished {p} {b} x = ap (rest inp) (emitted-advance x) ∙ one-rest inp (room b) finish p refl
 
 pub r-inside : {inp : Input} {d k : ℕ} {P : Part Rule} {p : Parser} {b : List ℕ} {s : Started} {c : List ℕ} {q : Parser} {e : List ℕ} {r : Completed} {f : List ℕ} →
-    Starts p b s c (push (event-word (start 0 0))) → Read inp d P (s .p) c q e → Completes (s .m) k q e r f → Read inp d (inside k P) p b (r .p) f
+    Starts p b s c (push (start 0 0)) → Read inp d P (s .p) c q e → Completes (s .m) k q e r f → Read inp d (inside k P) p b (r .p) f
 unfolding read step
 r-inside {inp} {d} {k} {P} {p} {b} {s} {c} {q} {e} {r} {f} x y z = record { did = boxes }
   where
@@ -201,18 +186,19 @@ r-inside {inp} {d} {k} {P} {p} {b} {s} {c} {q} {e} {r} {f} x y z = record { did 
     boxes n l =
         let o = reading-at inp n d P p in
         let i : Became inp o (s .p) c q e = became-same (λ h. ap (read grammar n d P) (rest-started opened)) (y .did n (subst (λ (xs : List ℕ). length xs < n) (sym (rest-started opened)) l)) in
-        let j : Emitted inp (start 0 0 ∷ events-of o) p b q e = emitted-append opened (became-emitted i) (λ h. refl) in
-        let m : Emitted inp (start k 0 ∷ events-of o) p b q (set e (s .m .0) (event-word (start k 0))) = emitted-restart [] (events-of o) 0 0 (s .m .0) (event-word (start k 0)) k 0 j (λ h. omega (arith, x .mark)) (λ h. refl) in
-        let t : Emitted inp (finish ∷ []) q (set e (s .m .0) (event-word (start k 0))) (r .p) f = emitted-completed z in
-        became
-        (subst (λ (es : List Event). Emitted inp es p b (r .p) f) (sym (boxed-events k o)) (emitted-append m t (λ h. refl)))
-        (λ g h. rest-finished t ∙ i .ends (emitted-goes (became-emitted i) (emitted-goes t h)) (emitted-goes t h) ∙ sym (boxed-left k o))
+        let j : Emitted inp (start 0 0 ∷ events-of o) p b q e = emitted-append opened (i .emitted) (λ h. refl) in
+        let m : Emitted inp (start k 0 ∷ events-of o) p b q (named (s .m .0) k e) = emitted-named [] (events-of o) 0 0 k j (λ h. omega (arith, x .mark)) in
+        let t : Emitted inp (finish ∷ []) q (named (s .m .0) k e) (r .p) f = emitted-completed z in
+        record {
+          emitted = subst (λ (es : List Event). Emitted inp es p b (r .p) f) (sym (boxed-events k o)) (emitted-append m t (λ h. refl));
+          ends = λ g h. rest-finished t ∙ i .ends (emitted-goes (i .emitted) (emitted-goes t h)) (emitted-goes t h) ∙ sym (boxed-left k o);
+        }
 
 -- OPENERS --------------------------------------------------------------------------------------------------------------
 
-pub within-left : (d : ℕ) (xs : List ℕ) (o : Result) → (d ≡ 0 → ⊥) → within d xs o ≡ o
-within-left zero xs o h = absurd (h refl)
-within-left (suc d) xs o h = refl
+pub within-left : (n d : ℕ) (xs : List ℕ) (o : Result) → (d ≡ 0 → ⊥) → within n d xs o ≡ o
+within-left n zero xs o h = absurd (h refl)
+within-left n (suc d) xs o h = refl
 
 module _ {inp : Input} {P : Part Rule} {p : Parser} {b : List ℕ} where
   -- An opener, read with one opener fewer left.
@@ -228,19 +214,15 @@ module _ {inp : Input} {P : Part Rule} {p : Parser} {b : List ℕ} where
       opened n l =
           let o = reading-at inp n (p .left) P p in
           let i : Became inp o (with-left (p .left - 1) p) b q c = subst (λ (d : ℕ). Became inp (reading-at inp n d P p) (with-left (p .left - 1) p) b q c) level (x .did n l) in
-          let j = became-emitted i in
-          let a = advance inp (room b) (events-of o) p in
-          let e : with-left (p .left) q ≡ a = ap (with-left (p .left)) (j .parser ∙ advance-raised inp (room b) (p .left - 1) (events-of o) p)
-          ∙ ap (λ (m : ℕ). with-left m a) (sym (advance-left inp (room b) (events-of o) p)) in
-          became-same (λ h. sym (within-left (p .left) (rest inp p) o f)) (became (record { parser = e; words = j .words; long = j .long }) (i .ends))
+          became-same (λ h. sym (within-left 6 (p .left) (rest inp p) o f)) (record { emitted = emitted-raised (p .left - 1) (i .emitted); ends = i .ends })
 
   -- An opener too many.
-  pub r-deep : {r : Parser} → p .left ≡ 0 → Ran halt p b r b → Read inp (p .left) (opens P) p b r b
+  pub r-deep : {r : Parser} → p .left ≡ 0 → Ran (halt 6) p b r b → Read inp (p .left) (opens P) p b r b
   unfolding read step emit enter events-of left-over
   r-deep {r} e x = record { did = λ n l. became-same (λ h. rw e refl) deep }
     where
-      deep : Became inp (miss nested (rest inp p)) p b r b
-      deep = became (emitted (x .ran)) (λ g h. absurd (halt-stops (state p b) (ap (λ (s : State). s .parser .stop) (sym (x .ran)) ∙ h)))
+      deep : Became inp (miss (refusal 6) (rest inp p)) p b r b
+      deep = record { emitted = emitted (x .ran); ends = λ g h. absurd (halt-stops 6 (state p b) (ap (λ (s : State). s .parser .stop) (sym (x .ran)) ∙ h)) }
 
 -- A rule, inside an opener.
 pub r-rule : {inp : Input} {d : ℕ} (r : Rule) {p : Parser} {b : List ℕ} {q : Parser} {c : List ℕ} → Read inp d (rules r) p b q c → Read inp (suc d) (rule r) p b q c
@@ -257,5 +239,5 @@ r-opt-rule {inp} {d} r {p} e x =
 
 -- A node that is begun, read and completed.
 pub n-inside : {inp : Input} {d k : ℕ} {P : Part Rule} {p : Parser} {b : List ℕ} {s : Started} {c : List ℕ} {q : Parser} {e : List ℕ} {r : Completed} {f : List ℕ} →
-    Starts p b s c (push (event-word (start 0 0))) → Read inp d P (s .p) c q e → Completes (s .m) k q e r f → ReadNode inp d (inside k P) p b r f
+    Starts p b s c (push (start 0 0)) → Read inp d P (s .p) c q e → Completes (s .m) k q e r f → ReadNode inp d (inside k P) p b r f
 n-inside x y z = record { reads = r-inside x y z; mark = z .mark ∙ x .mark }

@@ -8,7 +8,6 @@ use Rattle.predictive.specs.Grammar.{Choice, Part, seq, inside, suffix, opens}
 use Rattle.predictive.specs.Events.{start}
 use Rattle.predictive.proofs.Lookahead.{single}
 use Rattle.predictive.proofs.Takes.{takes}
-use Rattle.aadl.specs.Reading.{event-word}
 use Rattle.aadl.specs.Section.{Rule}
 use Rattle.parser.specs.declared.Parser.{Parser}
 use Rattle.parser.specs.declared.Started.{Started}
@@ -36,12 +35,12 @@ module _ (level : ℕ → ℕ) {inp : Input} {p : Parser} {b : List ℕ} where
   seq-at x y = r-seq x (at-level (ap level (read-left x)) y)
 
   pub inside-at : {k : ℕ} {P : Part Rule} {s : Started} {c : List ℕ} {q : Parser} {e : List ℕ} {r : Completed} {f : List ℕ} →
-      Starts p b s c (push (event-word (start 0 0))) →
+      Starts p b s c (push (start 0 0)) →
       Read inp (level (s .p .left)) P (s .p) c q e → Completes (s .m) k q e r f → Read inp (level (p .left)) (inside k P) p b (r .p) f
   inside-at x y z = r-inside x (at-level (ap level (started-left x)) y) z
 
   pub node-at : {k : ℕ} {P : Part Rule} {s : Started} {c : List ℕ} {q : Parser} {e : List ℕ} {r : Completed} {f : List ℕ} →
-      Starts p b s c (push (event-word (start 0 0))) →
+      Starts p b s c (push (start 0 0)) →
       Read inp (level (s .p .left)) P (s .p) c q e → Completes (s .m) k q e r f → ReadNode inp (level (p .left)) (inside k P) p b r f
   node-at x y z = n-inside x (at-level (ap level (started-left x)) y) z
 

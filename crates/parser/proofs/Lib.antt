@@ -1,8 +1,10 @@
+pub mod Buffer
 pub mod Pushing
 pub mod Trivia
 pub mod Tests
 pub mod Marks
 pub mod Emit
+pub mod Written
 pub mod Counters
 pub mod Emitted
 pub mod Join

@@ -19,11 +19,12 @@ use Rattle.predictive.proofs.Takes.{takes, takes-one}
 use Rattle.aadl.specs.Section.{Rule, grammar}
 use Rattle.parser.specs.declared.Parser.{Parser}
 use Rattle.parser.specs.Input.{Input, rest}
-use Rattle.parser.specs.State.{room}
+use Rattle.parser.specs.Buffer.{room}
 use Rattle.parser.specs.Reads.{stands, heads-of, reading-at, Became, Read}
 use Rattle.parser.proofs.Pushing.{goes-or-stopped}
 use Rattle.parser.proofs.Counters.{advance-fewer}
-use Rattle.parser.proofs.Join.{became-emitted, became-goes, became-no-more, became-same, became-both, became-nothing, stands-goes, stands-at, read-left, read-long}
+use Rattle.parser.proofs.Emitted.{emitted-advance}
+use Rattle.parser.proofs.Join.{became-goes, became-no-more, became-same, became-both, became-nothing, stands-goes, stands-at, read-left, read-long}
 
 -- what there is to read
 abbrev pub μ : Input → Parser → ℕ
@@ -46,7 +47,7 @@ module _ {inp : Input} {d : ℕ} {P : Part Rule} {p : Parser} {b : List ℕ} {q 
       let n = suc (length (rest inp p)) in
       let o = reading-at inp n d P p in
       let a = stands-at inp (heads-of P) p s (stands-goes inp (heads-of P) p s) in
-      let e = became-emitted (x .did n (omega arith)) .parser in
+      let e = emitted-advance (x .did n (omega arith) .emitted) in
       let f = advance-fewer inp (room b) (events-of o) p (ap (λ (u : Parser). u .stop) (sym e) ∙ h) in
       let k : 1 ≤ taken (events-of o) = takes-one grammar n d (below grammar n d) P (rest inp p) t a in
       omega (arith, f, k, remains inp (heads-of P) p s, ap (λ (u : Parser). length (rest inp u)) e)

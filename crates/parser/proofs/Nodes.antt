@@ -27,7 +27,7 @@ use Rattle.parser.specs.State.{precede}
 use Rattle.parser.specs.Reads.{stands, heads-of, reading-at, Became, Read, ReadOperand, marked, Starts, Completes}
 use Rattle.parser.proofs.Pushing.{goes-or-stopped}
 use Rattle.parser.proofs.Emitted.{emitted-used}
-use Rattle.parser.proofs.Join.{became-emitted, became-goes, r-same, became-no-more, stands-goes, stands-at}
+use Rattle.parser.proofs.Join.{became-goes, r-same, became-no-more, stands-goes, stands-at}
 use Rattle.parser.proofs.Turns.{stopped-within, turned}
 
 -- OPERANDS -------------------------------------------------------------------------------------------------------------
@@ -63,7 +63,7 @@ module _ {inp : Input} {d : ℕ} {P : Part Rule} {p : Parser} {b : List ℕ} {q 
       record {
         reads = x;
         mark = λ n l g h.
-            let u = emitted-used (became-emitted (x .did n l)) h ∙ ap (λ (t : Result). p .used + length (events-of t)) (e n g) in
+            let u = emitted-used (x .did n l .emitted) h ∙ ap (λ (t : Result). p .used + length (events-of t)) (e n g) in
             at-start (o n) u ∙ ap (marked (q .used)) (sym (e n g));
       }
     where

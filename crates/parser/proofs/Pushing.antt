@@ -1,4 +1,4 @@
--- The steps of a parser, case by case: it stopped, there is a word left, there is none. Assumes nothing.
+-- The steps of a parser, case by case: it stopped, there is room for an event, there is none. Assumes nothing.
 use Prim.Native.Nat.{ℕ, zero, suc, _≤_, _<_}
 use native.Mathlib.Omega.{arith}
 use mathlib.Core.Path.{_≡_, refl, _∙_}
@@ -6,7 +6,9 @@ use mathlib.Core.Bool.{Bool, true, false, cond}
 use mathlib.Core.Logic.{_⊎_, inl, inr}
 use lib.Dec.{eqb, ltb}
 use borrow.Author.Tests.{eq-eqb, ne-eqb, eqb-true, eqb-false, lt-ltb, le-ltb, ltb-true, ltb-false}
-use Rattle.parser.specs.State.{State, room, going, stopped, pushed, push-or-stop, push, halt, pass, passed}
+use Rattle.predictive.specs.Events.{Event}
+use Rattle.parser.specs.State.{State, going, stopped, appended, push-or-stop, push, halt, pass, passed}
+use Rattle.parser.specs.Buffer.{room}
 use Rattle.parser.specs.Input.{Input}
 
 -- The parser of a state goes on, or it stopped.
@@ -15,6 +17,15 @@ Goes s = s .parser .stop ≡ 0
 
 abbrev pub Stopped : State → Type 0
 Stopped s = Goes s → ⊥
+
+-- What holds either way holds of a choice, and of a step that the parser makes while it goes on.
+pub both-ways : {A : Type 0} (C : A → Type 0) (t : Bool) {a b : A} → C a → C b → C (cond t a b)
+both-ways C true x y = x
+both-ways C false x y = y
+
+pub going-both : (f : State → State) (s : State) (C : State → Type 0) → C (f s) → C s → C (going f s)
+unfolding going
+going-both f s C x y = both-ways C (eqb (s .parser .stop) 0) x y
 
 pub goes-or-stopped : (n : ℕ) → (n ≡ 0) ⊎ (n ≡ 0 → ⊥)
 goes-or-stopped zero = inl refl
@@ -30,46 +41,56 @@ going-goes f s h = rw (eq-eqb (s .parser .stop) 0 h) refl
 
 -- PUSHING --------------------------------------------------------------------------------------------------------------
 
-pub push-stopped : (w : ℕ) (s : State) → Stopped s → push w s ≡ s
-unfolding push
-push-stopped w s h = going-stopped (push-or-stop w) s h
-
-pub push-fits : (w : ℕ) (s : State) → Goes s → s .parser .used < room (s .words) → push w s ≡ pushed w s
-unfolding push
-push-fits w s h l = going-goes (push-or-stop w) s h ∙ rw (lt-ltb (s .parser .used) (room (s .words)) l) refl
-
-pub push-full : (w : ℕ) (s : State) → Goes s → room (s .words) ≤ s .parser .used → push w s ≡ stopped 5 s
-unfolding push
-push-full w s h l = going-goes (push-or-stop w) s h ∙ rw (le-ltb (s .parser .used) (room (s .words)) l) refl
+-- There is room for one more event.
+abbrev pub Fits : State → Type 0
+Fits s = s .parser .used < room (s .words)
 
 -- What holds in each of the three cases holds of a push.
-pub push-elim : (w : ℕ) (s : State) (C : State → Type 0) → (Stopped s → C s) → (Goes s → s .parser .used < room (s .words) → C (pushed w s)) →
-    (Goes s → room (s .words) ≤ s .parser .used → C (stopped 5 s)) → C (push w s)
+pub push-elim : (e : Event) (s : State) (C : State → Type 0) → (Stopped s → C s) → (Goes s → Fits s → C (appended e s)) →
+    (Goes s → room (s .words) ≤ s .parser .used → C (stopped 5 s)) → C (push e s)
 unfolding push going
-push-elim w s C a b c = go (eqb (s .parser .stop) 0) refl (ltb (s .parser .used) (room (s .words))) refl
+push-elim e s C a b c = go (eqb (s .parser .stop) 0) refl (ltb (s .parser .used) (room (s .words))) refl
   where
-    go : (t : Bool) → eqb (s .parser .stop) 0 ≡ t → (u : Bool) → ltb (s .parser .used) (room (s .words)) ≡ u → C (cond t (cond u (pushed w s) (stopped 5 s)) s)
-    go true e true f = b (eqb-true _ _ e) (ltb-true _ _ f)
-    go true e false f = c (eqb-true _ _ e) (ltb-false _ _ f)
-    go false e u f = a (eqb-false _ _ e)
+    go : (t : Bool) → eqb (s .parser .stop) 0 ≡ t → (u : Bool) → ltb (s .parser .used) (room (s .words)) ≡ u → C (cond t (cond u (appended e s) (stopped 5 s)) s)
+    go true i true f = b (eqb-true _ _ i) (ltb-true _ _ f)
+    go true i false f = c (eqb-true _ _ i) (ltb-false _ _ f)
+    go false i u f = a (eqb-false _ _ i)
 
--- A push after which the parser goes on had a word.
-pub push-went : (w : ℕ) (s : State) → Goes (push w s) → Goes s × (s .parser .used < room (s .words)) × (push w s ≡ pushed w s)
-push-went w s =
-    push-elim w s (λ r. Goes r → Goes s × (s .parser .used < room (s .words)) × (r ≡ pushed w s))
-    (λ h e. absurd (h e))
-    (λ h l e. (h, l, refl))
-    (λ h l e. let z : ⊥ = omega (arith, e) in absurd z)
+pub push-stopped : (e : Event) (s : State) → Stopped s → push e s ≡ s
+unfolding push
+push-stopped e s h = going-stopped (push-or-stop e) s h
 
-pub halt-stopped : (s : State) → Stopped s → halt s ≡ s
+pub push-fits : (e : Event) (s : State) → Goes s → Fits s → push e s ≡ appended e s
+unfolding push
+push-fits e s h l = going-goes (push-or-stop e) s h ∙ rw (lt-ltb (s .parser .used) (room (s .words)) l) refl
+
+pub push-full : (e : Event) (s : State) → Goes s → room (s .words) ≤ s .parser .used → push e s ≡ stopped 5 s
+unfolding push
+push-full e s h l = going-goes (push-or-stop e) s h ∙ rw (le-ltb (s .parser .used) (room (s .words)) l) refl
+
+-- A push after which the parser goes on had room.
+pub push-went : (e : Event) (s : State) → Goes (push e s) → Goes s × Fits s × (push e s ≡ appended e s)
+push-went e s =
+    push-elim e s (λ r. Goes r → Goes s × Fits s × (r ≡ appended e s))
+    (λ h i. absurd (h i))
+    (λ h l i. (h, l, refl))
+    (λ h l i. let z : ⊥ = omega (arith, i) in absurd z)
+
+-- STOPPING AND PASSING -------------------------------------------------------------------------------------------------
+
+pub halt-stopped : (n : ℕ) (s : State) → Stopped s → halt n s ≡ s
 unfolding halt
-halt-stopped s h = going-stopped (stopped 6) s h
+halt-stopped n s h = going-stopped (stopped n) s h
 
-pub halt-stops : (s : State) → Stopped (halt s)
+pub halt-goes : (n : ℕ) (s : State) → Goes s → halt n s ≡ stopped n s
+unfolding halt
+halt-goes n s h = going-goes (stopped n) s h
+
+pub halt-stops : (n : ℕ) (s : State) → Stopped (halt n s)
 unfolding halt going
-halt-stops s = go (eqb (s .parser .stop) 0) refl
+halt-stops n s = go (eqb (s .parser .stop) 0) refl
   where
-    go : (t : Bool) → eqb (s .parser .stop) 0 ≡ t → Stopped (cond t (stopped 6 s) s)
+    go : (t : Bool) → eqb (s .parser .stop) 0 ≡ t → Stopped (cond t (stopped n s) s)
     go true e h = omega (arith, h)
     go false e h = eqb-false _ _ e h
 

@@ -1,23 +1,27 @@
 -- The tests of the parser's code against the heads that stand. The end's number is no kind, so no head stands for it; and no symbol
 -- is the end's, since a word's kind is below 256. By cases on what remains. Assumes nothing.
-use Prim.Native.Nat.{ℕ, _<_}
+use Prim.Native.Nat.{ℕ, _≤_, _<_, _/_}
+use native.Mathlib.Nat.{mod-lt}
 use native.Mathlib.Omega.{arith}
 use mathlib.Core.Path.{_≡_, refl, sym, ap, ap₂, subst, _∙_}
 use mathlib.Core.Bool.{Bool, true, false, cond, _&&_, _||_, or-false}
 use mathlib.Core.List.{List, [], _∷_}
-use lib.ListN.{drop}
-use lib.Dec.{eqb}
-use borrow.Author.Tests.{eq-eqb, ne-eqb}
+use lib.ListN.{length, getD, drop}
+use lib.Dec.{eqb, lit<}
+use borrow.Author.Tests.{eqb-true, eq-eqb, ne-eqb}
 use Rattle.predictive.specs.Grammar.{one, two, is, at, has}
 use Rattle.predictive.specs.Reader.{ones, twos, first}
+use Rattle.predictive.proofs.Tests.{and-l}
 use Rattle.predictive.proofs.Heads.{at-end}
 use Rattle.aadl.specs.Kinds.{ERROR, COLON, IDENT, #_}
 use Rattle.aadl.specs.Bytes.{peek}
+use Rattle.aadl.specs.Tokens.{kind-in}
 use Rattle.aadl.specs.Symbols.{C-STYLE, symbol-of, shown}
 use Rattle.aadl.specs.Section.{keywords, property-name}
 use Rattle.parser.specs.declared.Parser.{Parser}
-use Rattle.parser.specs.Input.{Input, kind-in, standing, rest, END, ahead, nth}
+use Rattle.parser.specs.Input.{Input, standing, rest, END, ahead, nth}
 use Rattle.parser.specs.Reads.{stands, heads-of}
+use Rattle.parser.proofs.Trivia.{ahead-is, ahead-ends}
 
 -- WHAT STANDS AHEAD ----------------------------------------------------------------------------------------------------
 
@@ -55,6 +59,26 @@ shown-small inp p {x} {k} e f = subst (λ (y : ℕ). y < 258) (sym (f ∙ ap sho
     go : (t : Bool) → shown (cond t (ahead (rest inp p)) END) < 258
     go true = standing-known (inp .text) (p .byte) (drop (p .at) (inp .words)) .1
     go false = omega arith
+
+-- WHAT THE TOKEN AHEAD SHOWS ------------------------------------------------------------------------------------------
+
+shown-symbol : (k b : ℕ) → k < 256 → k ≡ shown (symbol-of k b)
+unfolding shown
+shown-symbol k b h = go (eqb k (# ERROR) && eqb b 48) refl
+  where
+    go : (t : Bool) → (eqb k (# ERROR) && eqb b 48) ≡ t → k ≡ shown (cond t C-STYLE k)
+    go true e = eqb-true k (# ERROR) (and-l (eqb k (# ERROR)) (eqb b 48) e)
+    go false e = sym (rw (ne-eqb k 258 (λ z. let w : ⊥ = omega (arith, h, z) in w)) refl)
+
+module _ (text ws : List ℕ) (i b : ℕ) where
+  pub shown-ahead : i < length ws → kind-in (getD ws i 0) ≡ shown (ahead (standing text b (drop i ws)))
+  shown-ahead h =
+      let k = kind-in (getD ws i 0) in
+      shown-symbol k (peek text b) (mod-lt (getD ws i 0 / 65536) (lit< tt)) ∙ ap shown (ahead-is text ws i b h refl refl)
+
+  pub shown-end : length ws ≤ i → END ≡ shown (ahead (standing text b (drop i ws)))
+  unfolding shown
+  shown-end h = ap shown (ahead-ends text ws i b h)
 
 -- HEADS ----------------------------------------------------------------------------------------------------------------
 

@@ -11,11 +11,11 @@ use lib.Seq.{drop-cons}
 use lib.Dec.{leb}
 use borrow.Author.Tests.{leb-true, leb-false}
 use Rattle.aadl.specs.Bytes.{peek}
-use Rattle.aadl.specs.Tokens.{length-in}
+use Rattle.aadl.specs.Tokens.{kind-in, length-in}
 use Rattle.aadl.specs.Symbols.{is-trivia, symbol-of, Placed, placed}
 use Rattle.parser.specs.declared.Parser.{Parser}
 use Rattle.parser.specs.declared.Place.{Place}
-use Rattle.parser.specs.Input.{Input, kind-in, token-in, without-trivia, standing, rest, past, skip, trivia-ahead, after-one, next, END, ahead}
+use Rattle.parser.specs.Input.{Input, token-in, without-trivia, standing, rest, past, skip, trivia-ahead, after-one, next, END, ahead}
 
 abbrev pub tail : List ℕ → List ℕ
 tail [] = []

@@ -1,12 +1,12 @@
 -- What a parser reads: a text and its token words, and what remains of them where the parser stands. Assumes nothing.
-use Prim.Native.Nat.{ℕ, suc, _+_, _/_, _%_, min}
+use Prim.Native.Nat.{ℕ, suc, _+_, min}
 use mathlib.Core.Bool.{Bool, false, cond}
 use mathlib.Core.List.{List, [], _∷_, map}
 use lib.ListN.{length, drop}
 use lib.Dec.{eqb}
 use Rattle.aadl.specs.declared.Token.{Token}
 use Rattle.aadl.specs.Bytes.{peek}
-use Rattle.aadl.specs.Tokens.{token, length-in}
+use Rattle.aadl.specs.Tokens.{token, kind-in, length-in}
 use Rattle.aadl.specs.Symbols.{is-trivia, symbol-of, Placed, placed}
 use Rattle.parser.specs.declared.Parser.{Parser}
 use Rattle.parser.specs.declared.Place.{Place}
@@ -19,9 +19,6 @@ abbrev pub input : (text words : List ℕ) → Input
 input text words = record { text = text; words = words }
 
 -- The token that a word stands for; the words may be any.
-abbrev pub kind-in : ℕ → ℕ
-kind-in w = w / 65536 % 256
-
 abbrev pub token-in : ℕ → Token
 token-in w = token (kind-in w) (length-in w)
 

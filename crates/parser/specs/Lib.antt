@@ -1,3 +1,4 @@
 pub mod Input
+pub mod Buffer
 pub mod State
 pub mod Reads

@@ -8,7 +8,7 @@ use lib.ListN.{length}
 use lib.Dec.{eqb}
 use Rattle.predictive.specs.Grammar.{Head, at, Part}
 use Rattle.predictive.specs.Reader.{Result, miss, done, read, first}
-use Rattle.predictive.specs.Events.{behind-start, events-of, left-over}
+use Rattle.predictive.specs.Events.{Event, behind-start, events-of, left-over}
 use Rattle.aadl.specs.Section.{Rule, grammar}
 use Rattle.parser.specs.declared.Parser.{Parser}
 use Rattle.parser.specs.declared.Started.{Started}
@@ -33,12 +33,16 @@ heads-of P = first grammar P
 pub record Ran (f : State → State) (p : Parser) (b : List ℕ) (r : Parser) (c : List ℕ) : Type 0 where
   pub ran : state r c ≡ f (state p b)
 
--- The parser r and the words c after what o gave: its events are pushed, and the parser stands at what it left. What a stopped
--- reader has left in the event words is free, but for their number: the call that lent them clears them.
-pub record Became (inp : Input) (o : Result) (p : Parser) (b : List ℕ) (r : Parser) (c : List ℕ) : Type 0 where
-  pub parser : r ≡ emit inp (events-of o) (state p b) .parser
-  pub words : r .stop ≡ 0 → c ≡ emit inp (events-of o) (state p b) .words
+-- The parser r and the words c after the events es, from p and b. What a stopped reader has left in the event words is free, but for
+-- their number: the call that lent them clears them.
+pub record Emitted (inp : Input) (es : List Event) (p : Parser) (b : List ℕ) (r : Parser) (c : List ℕ) : Type 0 where
+  pub parser : r ≡ emit inp es (state p b) .parser
+  pub words : r .stop ≡ 0 → c ≡ emit inp es (state p b) .words
   pub long : length c ≡ length b
+
+-- The same after what o gave: its events are pushed, and the parser stands at what it left.
+pub record Became (inp : Input) (o : Result) (p : Parser) (b : List ℕ) (r : Parser) (c : List ℕ) : Type 0 where
+  pub emitted : Emitted inp (events-of o) p b r c
   pub ends : p .stop ≡ 0 → r .stop ≡ 0 → rest inp r ≡ left-over o
 
 -- The reading of the part P of what remains, with d openers left. A loop makes at most a turn for each symbol, and one more: the

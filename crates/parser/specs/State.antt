@@ -1,17 +1,15 @@
--- What reading does to a parser and the lent event words: an event is pushed, a token is passed, an opener too many stops it.
--- Assumes nothing.
-use Prim.Native.Nat.{ℕ, _+_, _*_, _-_, _/_, max, min}
+-- What reading does to a parser and the lent event words: an event is pushed, a token is passed, a refusal stops it. Assumes nothing.
+use Prim.Native.Nat.{ℕ, _+_, _-_, max, min}
 use mathlib.Core.Bool.{cond}
 use mathlib.Core.List.{List, [], _∷_}
-use lib.ListN.{length, getD, set}
 use lib.Dec.{eqb, ltb}
-use Rattle.predictive.specs.Forest.{message, nested}
+use Rattle.predictive.specs.Forest.{message, refusal}
 use Rattle.predictive.specs.Events.{Event, start, token, finish, error}
 use Rattle.aadl.specs.Limits.{most-events}
-use Rattle.aadl.specs.Reading.{event-word}
 use Rattle.parser.specs.declared.Parser.{Parser}
 use Rattle.parser.specs.declared.Place.{Place}
 use Rattle.parser.specs.Input.{Input, next}
+use Rattle.parser.specs.Buffer.{room, put, named, linked}
 
 pub record State : Type 0 where
   pub parser : Parser
@@ -19,10 +17,6 @@ pub record State : Type 0 where
 
 abbrev pub state : Parser → List ℕ → State
 state p b = record { parser = p; words = b }
-
--- "Of the lent event words only the first 32,768 are used."
-abbrev pub room : List ℕ → ℕ
-room b = min (length b) most-events
 
 -- A parser that stopped does nothing more.
 unfoldable pub going : (State → State) → State → State
@@ -37,48 +31,52 @@ with-stop n p = record { at = p .at; byte = p .byte; taken = p .taken; used = p 
 abbrev pub with-used : ℕ → Parser → Parser
 with-used n p = record { at = p .at; byte = p .byte; taken = p .taken; used = n; left = p .left; stop = p .stop }
 
+-- one event more
+abbrev pub one-used : Parser → Parser
+one-used p = with-used (p .used + 1) p
+
+-- A refusal stops the parser by its number; 0 is no refusal's, so that it always stops.
 abbrev pub stopped : ℕ → State → State
-stopped n s = state (with-stop n (s .parser)) (s .words)
+stopped n s = state (with-stop (max 1 n) (s .parser)) (s .words)
 
-abbrev pub pushed : ℕ → State → State
-pushed w s = state (with-used (s .parser .used + 1) (s .parser)) (set (s .words) (s .parser .used) w)
-
--- Where "no event word left" stops it, the refusal is 5 ..
-abbrev pub push-or-stop : ℕ → State → State
-push-or-stop w s = cond (ltb (s .parser .used) (room (s .words))) (pushed w s) (stopped 5 s)
-
-unfoldable pub push : ℕ → State → State
+unfoldable pub halt : ℕ → State → State
 unfolding going
-push w s = going (push-or-stop w) s
+halt n s = going (stopped n) s
 
--- .. and 6 where an opener "would be the 65th open one".
-unfoldable pub halt : State → State
+abbrev pub appended : Event → State → State
+appended e s = state (one-used (s .parser)) (put (s .parser) e (s .words))
+
+-- Where "no event word left" stops it, the refusal is 5.
+abbrev pub push-or-stop : Event → State → State
+push-or-stop e s = cond (ltb (s .parser .used) (room (s .words))) (appended e s) (stopped 5 s)
+
+unfoldable pub push : Event → State → State
 unfolding going
-halt s = going (stopped 6) s
+push e s = going (push-or-stop e) s
 
--- One more is counted, up to as many as there can be events.
-abbrev pub counted : ℕ → ℕ
-counted n = max n (min (n + 1) most-events)
+-- One more is taken, up to as many as there can be events.
+abbrev pub one-more : ℕ → ℕ
+one-more n = max n (min (n + 1) most-events)
 
 -- The token where the parser stands is passed.
 abbrev pub moved-on : Place → (taken : ℕ) → Parser → Parser
 moved-on at n p = record { at = at .at; byte = at .byte; taken = n; used = p .used; left = p .left; stop = p .stop }
 
 abbrev pub passed : Input → State → State
-passed inp s = state (moved-on (next inp (s .parser)) (counted (s .parser .taken)) (s .parser)) (s .words)
+passed inp s = state (moved-on (next inp (s .parser)) (one-more (s .parser .taken)) (s .parser)) (s .words)
 
 unfoldable pub pass : Input → State → State
 unfolding going
 pass inp s = going (passed inp) s
 
--- One event, and events one after another.
+-- One event, and events one after another: a refusal is pushed nowhere.
 unfoldable pub enter : Input → Event → State → State
 unfolding push halt pass
-enter inp (start k up) s = push (event-word (start k up)) s
-enter inp (token k) s = pass inp (push (event-word (token k)) s)
-enter inp finish s = push (event-word finish) s
-enter inp (error (message m)) s = push (event-word (error (message m))) s
-enter inp (error nested) s = halt s
+enter inp (start k up) s = push (start k up) s
+enter inp (token k) s = pass inp (push (token k) s)
+enter inp finish s = push finish s
+enter inp (error (message m)) s = push (error (message m)) s
+enter inp (error (refusal n)) s = halt n s
 
 unfoldable pub emit : Input → List Event → State → State
 unfolding enter
@@ -87,20 +85,16 @@ emit inp (e ∷ es) s = emit inp es (enter inp e s)
 
 -- MARKERS --------------------------------------------------------------------------------------------------------------
 
--- The word w at a place of the words.
-abbrev pub stored : (place w : ℕ) → State → State
-stored m w s = record { parser = s .parser; words = set (s .words) m w }
+-- The words are changed, the parser is not.
+abbrev pub rewritten : (List ℕ → List ℕ) → State → State
+rewritten f s = state (s .parser) (f (s .words))
 
 -- "Completing writes the node kind into the Start and pushes Finish."
 unfoldable pub complete : (place kind : ℕ) → State → State
 unfolding going push
-complete m k s = going (λ t. push (event-word finish) (stored m (event-word (start k 0)) t)) s
+complete m k s = going (λ t. push finish (rewritten (named m k) t)) s
 
 -- "Preceding pushes a new Start and stores its distance as forward parent."
-abbrev pub linked : (place distance : ℕ) → State → State
-linked m n s = stored m (getD (s .words) m 0 / 65536 * 65536 + n) s
-
 unfoldable pub precede : (place : ℕ) → State → State
 unfolding going push
-precede m s =
-    going (λ t. cond (ltb m (s .parser .used)) (linked m (s .parser .used - m) t) t) (push (event-word (start 0 0)) s)
+precede m s = going (λ t. cond (ltb m (s .parser .used)) (rewritten (linked m (s .parser .used - m)) t) t) (push (start 0 0) s)

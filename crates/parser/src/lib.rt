@@ -2,25 +2,32 @@
 // lent to be written, and the parser's counters go by value. Once the parser stopped, every function here leaves all as it is.
 
 use classes::peek;
+use codec::error_event;
+use codec::finish_event;
+use codec::kind_in;
+use codec::length_in;
+use codec::start_word;
+use codec::token_event;
+use codec::with_parent;
 use syntax_kind::COLON;
 use syntax_kind::ERROR;
 use syntax_kind::IDENT;
 use syntax_kind::is_keyword;
 use syntax_kind::is_trivia;
 ghost use mathlib.Core.Path.{_≡_};
-ghost use Prim.Native.Nat.{ℕ, _<_, _+_, _*_, _/_, min};
+ghost use Prim.Native.Nat.{ℕ, _≤_, _<_};
 ghost use mathlib.Core.List.{List, [], _∷_};
 ghost use lib.ListN.{drop};
 ghost use Rattle.predictive.specs.Forest.{message};
 ghost use Rattle.predictive.specs.Grammar.{Choice, one, two, tok, opt, any};
 ghost use Rattle.predictive.specs.Reader.{expected};
 ghost use Rattle.predictive.specs.Events as E;
-ghost use Rattle.aadl.specs.Limits.{most-events};
 ghost use Rattle.aadl.specs.Symbols as Sym;
-ghost use Rattle.aadl.specs.Reading.{event-word};
+ghost use Rattle.aadl.specs.Encoding.{event-word};
 ghost use Rattle.aadl.specs.Section.{property-name};
 ghost use Rattle.parser.specs.Input as I;
 ghost use Rattle.parser.specs.Input.{input};
+ghost use Rattle.parser.specs.Buffer as B;
 ghost use Rattle.parser.specs.State as S;
 ghost use Rattle.parser.specs.Reads.{Ran, Read, Starts, Completes, stands, heads-of};
 
@@ -29,8 +36,11 @@ pub const C_STYLE: u32 = 258;
 
 pub const END: u32 = 257;
 
+// The refusal of an opener too many.
+pub const TOO_DEEP: usize = 6;
+
 // Where reading stands: the number of the next token's word and where that token starts in the text, the non-trivia tokens taken,
-// the event words used, the openers left, and why reading stopped: 0 not at all, 5 no event word left, 6 an opener too many.
+// the events pushed, the openers left, and the number of the refusal that stopped reading, or 0.
 pub struct Parser {
     pub at: usize,
     pub byte: usize,
@@ -47,10 +57,10 @@ pub struct Place {
 }
 
 // The Start of a node that is open.
-pub struct Marker(pub usize);
+pub struct Marker(usize);
 
 // The Start of a node that is complete.
-pub struct CompletedMarker(pub usize);
+pub struct CompletedMarker(usize);
 
 pub struct Started {
     pub p: Parser,
@@ -75,25 +85,13 @@ pub struct Operand {
 
 // TOKENS
 
-fn wide(x: u32) -> usize
-    ensures { λ r. ⌜ r ≡ x ⌝ }
-{
-    x as usize
-}
-
-fn kind_in(w: u32) -> u32
-    ensures { λ r. ⌜ r ≡ I.kind-in w ⌝ }
-{
-    w / 65536 % 256
-}
-
 // Where the token after the word w starts that starts at a byte of the text.
 fn past(text: &[u8], byte: usize, w: u32) -> usize
     ensures { λ r. ⌜ r ≡ I.past (now (text .entry)) byte w ⌝ }
 {
     let n = text.len();
     if byte < n {
-        let e = byte + wide(w % 65536);
+        let e = byte + length_in(w);
         if e < n {
             return e;
         }
@@ -201,6 +199,20 @@ pub fn nth(text: &[u8], toks: &[u32], p: Parser, n: usize) -> u32
     symbol_at(text, toks, at, byte)
 }
 
+// The kind of the token where the parser stands, or the end's symbol: a C-style literal shows ERROR, so the text is not asked.
+pub fn kind_at(toks: &[u32], p: Parser) -> u32
+    ensures { λ r. ⌜ ((text : List ℕ) → r ≡ Sym.shown (I.nth (input text (now (toks .entry))) p 0)) ⌝ }
+{
+    if p.stop != 0 {
+        return END;
+    }
+    let at = p.at;
+    if at < toks.len() {
+        return kind_in(toks[at]);
+    }
+    END
+}
+
 pub fn at(text: &[u8], toks: &[u32], p: Parser, kind: u32) -> bool
     requires { ⌜ kind < 256 ⌝ }
     ensures { λ r. ⌜ r ≡ stands (input (now (text .entry)) (now (toks .entry))) (one kind ∷ []) p ⌝ }
@@ -233,42 +245,43 @@ pub fn at_name(text: &[u8], toks: &[u32], p: Parser) -> bool
     false
 }
 
-// EVENTS
+// FIELDS
+//
+// A parser with another field: written out here and nowhere else, for a copy that is then changed is slower.
 
-// An event word is class × 16,777,216 + kind × 65,536 + last; class 0 is a Start, whose last is its forward parent.
-
-// a Token, whose last is 1, without its kind
-const TOKEN: u32 = 16777217;
-
-const FINISH: u32 = 33554432;
-
-// an Error without its message
-const MESSAGE: u32 = 50331648;
-
-// How many of so many lent event words are used.
-fn room(lent: usize) -> usize
-    ensures { λ r. ⌜ r ≡ min lent most-events ⌝ }
+pub fn with_left(p: Parser, left: usize) -> Parser
+    ensures { λ r. ⌜ r ≡ S.with-left left p ⌝ }
 {
-    if lent < 32768 { lent } else { 32768 }
+    Parser {
+        at: p.at,
+        byte: p.byte,
+        taken: p.taken,
+        used: p.used,
+        left,
+        stop: p.stop,
+    }
 }
 
-fn push_event(events: &mut [u32], p: Parser, w: u32) -> Parser
-    ensures { λ r. ⌜ Ran (S.push w) p (now (events .entry)) r (now (events .exit)) ⌝ }
+fn with_used(p: Parser, used: usize) -> Parser
+    ensures { λ r. ⌜ r ≡ S.with-used used p ⌝ }
+{
+    Parser {
+        at: p.at,
+        byte: p.byte,
+        taken: p.taken,
+        used,
+        left: p.left,
+        stop: p.stop,
+    }
+}
+
+// Stops the parser, by the number of the refusal.
+pub fn stop(p: Parser, number: usize) -> Parser
+    requires { ⌜ 1 ≤ number ⌝ }
+    ensures { λ r. ⌜ ((b : List ℕ) → Ran (S.halt number) p b r b) ⌝ }
 {
     if p.stop != 0 {
         return p;
-    }
-    let used = p.used;
-    if used < room(events.len()) {
-        events[used] = w;
-        return Parser {
-            at: p.at,
-            byte: p.byte,
-            taken: p.taken,
-            used: used + 1,
-            left: p.left,
-            stop: p.stop,
-        };
     }
     Parser {
         at: p.at,
@@ -276,22 +289,73 @@ fn push_event(events: &mut [u32], p: Parser, w: u32) -> Parser
         taken: p.taken,
         used: p.used,
         left: p.left,
-        stop: 5,
+        stop: number,
     }
 }
 
+// THE LENT EVENT WORDS
+
+// The most events that are pushed.
+const MOST: usize = 32768;
+
+// For how many events so many lent words have room.
+fn room(events: &[u32]) -> usize
+    ensures { λ r. ⌜ r ≡ B.room (now (events .entry)) ⌝ }
+{
+    let lent = events.len();
+    if lent < MOST { lent } else { MOST }
+}
+
+// Gives the Start at a place its kind.
+fn name_start(events: &mut [u32], place: usize, kind: u32)
+    requires { ⌜ kind < 256 ⌝ }
+    ensures { λ _. ⌜ now (events .exit) ≡ B.named place kind (now (events .entry)) ⌝ }
+{
+    if place < events.len() {
+        events[place] = start_word(kind);
+    }
+}
+
+// Gives the Start at a place a forward parent so far on.
+fn link_start(events: &mut [u32], place: usize, distance: usize)
+    requires { ⌜ distance < 65536 ⌝ }
+    ensures { λ _. ⌜ now (events .exit) ≡ B.linked place distance (now (events .entry)) ⌝ }
+{
+    if place < events.len() {
+        let w = events[place];
+        events[place] = with_parent(w, distance);
+    }
+}
+
+// Pushes the event of a word.
+fn push_event(events: &mut [u32], p: Parser, w: u32) -> Parser
+    ensures { λ r. ⌜ ((e : E.Event) → w ≡ event-word e → Ran (S.push e) p (now (events .entry)) r (now (events .exit))) ⌝ }
+{
+    if p.stop != 0 {
+        return p;
+    }
+    let used = p.used;
+    if used < room(events) {
+        events[used] = w;
+        return with_used(p, used + 1);
+    }
+    stop(p, 5)
+}
+
+// EVENTS
+
 pub fn error(events: &mut [u32], p: Parser, m: u32) -> Parser
     requires { ⌜ m < 512 ⌝ }
-    ensures { λ r. ⌜ Ran (S.push (event-word (E.error (message m)))) p (now (events .entry)) r (now (events .exit)) ⌝ }
+    ensures { λ r. ⌜ Ran (S.push (E.error (message m))) p (now (events .entry)) r (now (events .exit)) ⌝ }
 {
-    push_event(events, p, MESSAGE + m)
+    push_event(events, p, error_event(m))
 }
 
 pub fn start(events: &mut [u32], p: Parser) -> Started
-    ensures { λ r. ⌜ Starts p (now (events .entry)) r (now (events .exit)) (S.push (event-word (E.start 0 0))) ⌝ }
+    ensures { λ r. ⌜ Starts p (now (events .entry)) r (now (events .exit)) (S.push (E.start 0 0)) ⌝ }
 {
     let m = Marker(p.used);
-    let q = push_event(events, p, 0);
+    let q = push_event(events, p, start_word(0));
     Started { p: q, m }
 }
 
@@ -308,22 +372,12 @@ pub fn complete(events: &mut [u32], p: Parser, m: Marker, kind: u32) -> Complete
             m: CompletedMarker(i),
         };
     }
-    if i < events.len() {
-        events[i] = kind * 65536;
-    }
-    let q = push_event(events, p, FINISH);
+    name_start(events, i, kind);
+    let q = push_event(events, p, finish_event());
     Completed {
         p: q,
         m: CompletedMarker(i),
     }
-}
-
-// The word of a Start with a forward parent so far on.
-fn with_parent(w: u32, distance: usize) -> u32
-    requires { ⌜ distance < 65535 ⌝ }
-    ensures { λ r. ⌜ r ≡ w / 65536 * 65536 + distance ⌝ }
-{
-    w / 65536 * 65536 + distance as u32
 }
 
 pub fn precede(events: &mut [u32], p: Parser, m: CompletedMarker) -> Started
@@ -337,40 +391,9 @@ pub fn precede(events: &mut [u32], p: Parser, m: CompletedMarker) -> Started
         return s;
     }
     if i < place {
-        let w = events[i];
-        events[i] = with_parent(w, place - i);
+        link_start(events, i, place - i);
     }
     s
-}
-
-// An opener too many stands.
-pub fn too_deep(p: Parser) -> Parser
-    ensures { λ r. ⌜ ((b : List ℕ) → Ran S.halt p b r b) ⌝ }
-{
-    if p.stop != 0 {
-        return p;
-    }
-    Parser {
-        at: p.at,
-        byte: p.byte,
-        taken: p.taken,
-        used: p.used,
-        left: p.left,
-        stop: 6,
-    }
-}
-
-pub fn with_left(p: Parser, left: usize) -> Parser
-    ensures { λ r. ⌜ r ≡ S.with-left left p ⌝ }
-{
-    Parser {
-        at: p.at,
-        byte: p.byte,
-        taken: p.taken,
-        used: p.used,
-        left,
-        stop: p.stop,
-    }
 }
 
 // TAKING TOKENS
@@ -394,7 +417,7 @@ pub fn pass(text: &[u8], toks: &[u32], p: Parser) -> Parser
     }
     let s = next(text, toks, p.at, p.byte);
     let mut taken = p.taken;
-    if taken < 32768 {
+    if taken < MOST {
         taken += 1;
     }
     Parser {
@@ -414,7 +437,7 @@ pub fn bump_any(text: &[u8], toks: &[u32], events: &mut [u32], p: Parser) -> Par
     if symbol == END {
         return p;
     }
-    let q = push_event(events, p, TOKEN + shown(symbol) * 65536);
+    let q = push_event(events, p, token_event(shown(symbol)));
     pass(text, toks, q)
 }
 
@@ -429,7 +452,7 @@ pub fn eat(text: &[u8], toks: &[u32], events: &mut [u32], p: Parser, kind: u32) 
 }
 
 // The parser after the token of a kind where it stands, or after the message that it is missing.
-fn expected(text: &[u8], toks: &[u32], events: &mut [u32], p: Parser, kind: u32) -> Parser
+fn token_or_error(text: &[u8], toks: &[u32], events: &mut [u32], p: Parser, kind: u32) -> Parser
     requires { ⌜ kind < 256 ⌝ }
     ensures { λ r. ⌜ ((d : ℕ) → Read (input (now (text .entry)) (now (toks .entry))) d (tok (expected kind) (kind ∷ [])) p (now (events .entry)) r (now (events .exit))) ⌝ }
 {
@@ -444,7 +467,7 @@ fn bumped(text: &[u8], toks: &[u32], events: &mut [u32], p: Parser, kind: u32) -
     requires { ⌜ kind < 256 ⌝ }
     ensures { λ r. ⌜ ((d : ℕ) → Read (input (now (text .entry)) (now (toks .entry))) d (tok (expected kind) (kind ∷ [])) p (now (events .entry)) r (now (events .exit))) ⌝ }
 {
-    expected(text, toks, events, p, kind)
+    token_or_error(text, toks, events, p, kind)
 }
 
 // The parser is lent, and moves on: each copies it whole and stores what the function by value makes of it.
@@ -453,7 +476,7 @@ impl Parser {
         requires { ⌜ kind < 256 ⌝ }
         ensures { λ _. ⌜ ((d : ℕ) → Read (input (now (text .entry)) (now (toks .entry))) d (tok (expected kind) (kind ∷ [])) (now (self .entry)) (now (events .entry)) (now (self .exit)) (now (events .exit))) ⌝ }
     {
-        let next = expected(text, toks, events, *self, kind);
+        let next = token_or_error(text, toks, events, *self, kind);
         *self = next;
     }
 

@@ -1,27 +1,28 @@
--- Kinds and messages within bounds: where those of a grammar's parts are, and those of the symbols, so are those of every reading. K
--- tests a kind, M a message; the test of a part is closed and so computed. Assumes nothing.
+-- Kinds and faults within bounds: where the kinds and messages of a grammar's parts are, the kinds of the symbols, and the refusal of an
+-- opener too many, so are those of every reading. K tests a kind, Q a fault; the test of a part is closed and so computed. Assumes nothing.
 use Prim.Native.Nat.{ℕ, zero, suc}
-use mathlib.Core.Path.{_≡_, refl, subst}
-use mathlib.Core.Bool.{Bool, true, false, _&&_, cond}
+use mathlib.Core.Path.{_≡_, refl, ap, subst}
+use mathlib.Core.Bool.{Bool, true, false, not, _||_, _&&_, cond}
 use mathlib.Core.List.{List, [], _∷_, _++_}
 use mathlib.Core.Option.{Option, none, some}
 use lib.ListN.{length, drop}
 use lib.Dec.{ltb}
-use Rattle.predictive.specs.Forest.{Forest, nil, leaf, err, node, wrap, _then_, Fault, message, nested}
+use borrow.Author.Tests.{not-true}
+use Rattle.predictive.specs.Forest.{Forest, nil, leaf, err, node, wrap, _then_, Fault, message, refusal}
 use Rattle.predictive.specs.Grammar.{Head, is, at, has, Form, row, row-in, broken, kinds-of, stand, longer, best, row-of, shape, Part, tok, pair, look, any, longest, wrong, fail, seq, either, opt, many, until, inside, suffix, leaning, before, opens, rule, Grammar}
 use Rattle.predictive.specs.Reader.{Result, miss, done, pick, after, firstly, beside, expected, take-one, take-two, take-look, take-any, take-form, take-wrong, repeat, lean, within, first, step, below, read}
-use Rattle.predictive.proofs.Tests.{_and_, left, right}
+use Rattle.predictive.proofs.Tests.{_and_, left, right, or-neither}
+use Rattle.predictive.proofs.Faults.{faulty, amiss}
 use Rattle.predictive.proofs.Heads.{best-splits}
 
-module _ (K M : ℕ → Bool) where
-  abbrev pub SmallFault : Fault → Type 0
-  SmallFault (message m) = M m ≡ true
-  SmallFault nested = Unit {0}
+module _ (K : ℕ → Bool) (Q : Fault → Bool) where
+  abbrev M : ℕ → Bool
+  M m = Q (message m)
 
   abbrev pub Small : Forest → Type 0
   Small nil = Unit {0}
   Small (leaf k f) = (K k ≡ true) × Small f
-  Small (err m f) = SmallFault m × Small f
+  Small (err m f) = (Q m ≡ true) × Small f
   Small (node k i f) = (K k ≡ true) × Small i × Small f
   Small (wrap k a b f) = (K k ≡ true) × Small a × Small b × Small f
 
@@ -99,9 +100,9 @@ module _ (K M : ℕ → Bool) where
     pick-fits true r s h i = h
     pick-fits false r s h i = i
 
-    within-fits : (d : ℕ) (xs : List ℕ) (r : Result) → Shown xs → FitsReading r → FitsReading (within d xs r)
-    within-fits zero xs r s h = record { forest = (tt, tt); rest = s }
-    within-fits (suc d) xs r s h = h
+    within-fits : (n d : ℕ) (xs : List ℕ) (r : Result) → Q (refusal n) ≡ true → Shown xs → FitsReading r → FitsReading (within n d xs r)
+    within-fits n zero xs r e s h = record { forest = (e, tt); rest = s }
+    within-fits n (suc d) xs r e s h = h
 
     missing-fits : (m : ℕ) (ys : List ℕ) → M m ≡ true → Shown ys → Fits (err (message m) nil) ys
     missing-fits m ys e h = record { forest = (e, tt); rest = h }
@@ -179,7 +180,7 @@ module _ (K M : ℕ → Bool) where
           (after-fits _ (λ g zs i. lean-fits k n (wrap k f g nil) zs e (record { forest = (e, h .forest, i .forest, tt); rest = i .rest })) (body ys) (body-fits ys (h .rest)))
           h
 
-    module _ (bound : ℕ) where
+    module _ (bound : ℕ) (deep-fits : Q (refusal (G .deep)) ≡ true) where
       module _ (d : ℕ) (inner : G .Rule → List ℕ → Result) (inner-fits : (r : G .Rule) (xs : List ℕ) → Shown xs → FitsReading (inner r xs)) where
         abbrev stepped : Part (G .Rule) → List ℕ → Result
         stepped p xs = step G bound d inner p xs
@@ -219,16 +220,50 @@ module _ (K M : ℕ → Bool) where
             (λ f ys i. lean-fits (λ zs. stepped q zs) (λ zs j. step-fits q (right _ _ (right _ _ g)) zs j) (first G q) (right _ _ (left _ _ g)) k bound f ys (left _ _ (left _ _ g)) i)
             (stepped p xs) (step-fits p (left _ _ (right _ _ g)) xs h)
         step-fits (before hs p) g xs h = step-fits p g xs h
-        step-fits (opens p) g xs h = within-fits d xs (stepped p xs) h (step-fits p g xs h)
+        step-fits (opens p) g xs h = within-fits (G .deep) d xs (stepped p xs) deep-fits h (step-fits p g xs h)
         step-fits (rule r) g xs h = inner-fits r xs h
 
       module _ (rules-fit : (r : G .Rule) → part-fits (G .rules r) ≡ true) where
         below-fits : (d : ℕ) (r : G .Rule) (xs : List ℕ) → Shown xs → FitsReading (below G bound d r xs)
         unfolding below
-        below-fits zero r xs h = record { forest = (tt, tt); rest = h }
+        below-fits zero r xs h = record { forest = (deep-fits, tt); rest = h }
         below-fits (suc d) r xs h = step-fits d (below G bound d) (below-fits d) (G .rules r) (rules-fit r) xs h
 
         -- What is read of symbols within bounds is within them.
         pub reading-fits : (d : ℕ) (p : Part (G .Rule)) → part-fits p ≡ true → (xs : List ℕ) → Shown xs → FitsReading (read G bound d p xs)
         unfolding read
         reading-fits d p g xs h = step-fits d (below G bound d) (below-fits d) p g xs h
+
+-- FAULTS ALONE ---------------------------------------------------------------------------------------------------------
+
+-- no kind is tested, so nothing is asked of the symbols
+abbrev pub any-kind : ℕ → Bool
+any-kind k = true
+
+module _ (q : Fault → Bool) where
+  abbrev pub but : Fault → Bool
+  but m = not (q m)
+
+  small-free : (f : Forest) → Small any-kind but f → faulty q f ≡ false
+  unfolding faulty
+  small-free nil s = refl
+  small-free (leaf k f) s = small-free f (s .1)
+  small-free (err m f) s = or-neither (q m) _ (not-true (q m) (s .0)) (small-free f (s .1))
+  small-free (node k i f) s = or-neither (faulty q i) _ (small-free i (s .1)) (small-free f (s .2))
+  small-free (wrap k a b f) s = or-neither (faulty q a || faulty q b) _ (or-neither (faulty q a) _ (small-free a (s .1)) (small-free b (s .2))) (small-free f (s .3))
+
+  module _ (G : Grammar) where
+    all-shown : (xs : List ℕ) → Shown any-kind but G xs
+    all-shown [] = tt
+    all-shown (x ∷ xs) = (refl, all-shown xs)
+
+    fits-free : (r : Result) → FitsReading any-kind but G r → amiss q r ≡ false
+    unfolding amiss
+    fits-free (miss m ys) h = not-true (q m) (h .forest .0)
+    fits-free (done f ys) h = small-free f (h .forest)
+
+    -- A fault that no part has and that is not the refusal of an opener too many is in no reading.
+    pub reading-free : (bound : ℕ) → q (refusal (G .deep)) ≡ false → ((r : G .Rule) → part-fits any-kind but (G .rules r) ≡ true) →
+        (d : ℕ) (p : Part (G .Rule)) → part-fits any-kind but p ≡ true → (xs : List ℕ) → amiss q (read G bound d p xs) ≡ false
+    reading-free bound e rules-fit d p g xs =
+        fits-free (read G bound d p xs) (reading-fits any-kind but G bound (ap not e) rules-fit d p g xs (all-shown xs))

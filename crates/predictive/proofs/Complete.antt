@@ -14,7 +14,7 @@ use Rattle.predictive.specs.Forest.{Forest, nil, leaf, wrap}
 use Rattle.predictive.specs.Grammar.{Head, one, is, at, has, Form, kinds-of, shape, Part, many, leaning, Grammar}
 use Rattle.predictive.specs.Grammar.{Derives, Many, Leaning, d-tok, d-pair, d-look, d-any, d-any-end, d-longest, d-no-form, d-seq, d-left, d-right, d-some, d-none, d-many, d-until, d-at-once, d-inside, d-alone, d-with, d-leaning, d-before, d-opens, d-rule, m-nil, m-cons, l-one, l-more}
 use Rattle.predictive.specs.Reader.{Result, done, firstly, expected, take-one, take-two, take-look, take-any, take-form, repeat, lean, within, null, first, step, below, read}
-use Rattle.predictive.specs.Events.{is-nested}
+use Rattle.predictive.specs.Events.{stops}
 use Rattle.predictive.proofs.Tests.{and-both, or-l, or-true-l}
 use Rattle.predictive.proofs.Faults.{amiss, amiss-after, amiss-firstly, keeps-beside, keeps-then, keeps-node, keeps-wrap, keeps-suffix, keeps-lean, keeps-lean-on, Agrees, excused, agree, agrees-after, agrees-firstly, agrees-first, agrees-second, agrees-done}
 use Rattle.predictive.proofs.Begins.{shrinks, stands, falls, begins, begins-many, begins-leaning, follows, absent, passed}
@@ -25,13 +25,13 @@ use Rattle.predictive.proofs.Lookahead.{ends, good, Tables, Fine, good-
 
 -- r is the reading done f ys, unless (with the excuse E) an opener too many was met
 abbrev pub Gives : Type 0 → Result → Forest → List ℕ → Type 0
-Gives E r f ys = Agrees is-nested E r (done f ys)
+Gives E r f ys = Agrees stops E r (done f ys)
 
-gives-within : {E : Type 0} (d : ℕ) (xs : List ℕ) {r : Result} {f : Forest} {ys : List ℕ} → (d ≡ zero → E) → Gives E r f ys →
-    Gives E (within d xs r) f ys
+gives-within : {E : Type 0} (n d : ℕ) (xs : List ℕ) {r : Result} {f : Forest} {ys : List ℕ} → (d ≡ zero → E) → Gives E r f ys →
+    Gives E (within n d xs r) f ys
 unfolding amiss
-gives-within zero xs w h = excused (w refl) refl
-gives-within (suc d) xs w h = h
+gives-within n zero xs w h = excused (w refl) refl
+gives-within n (suc d) xs w h = h
 
 has-one : (k : ℕ) → has (k ∷ []) k ≡ true
 has-one k = or-true-l (eqb k k) false (eq-eqb k k refl)
@@ -47,12 +47,12 @@ gives-form shown c xs ys e =
 
 -- The state of a left-leaning loop that was begun for r: it has f, and n turns are left for the symbols ys.
 data Reach (E : Type 0) (body : List ℕ → Result) (hs : List Head) (k : ℕ) (r : Result) (f : Forest) (ys : List ℕ) : Type 0 where
-  r-fault : E → amiss is-nested r ≡ true → Reach E body hs k r f ys
+  r-fault : E → amiss stops r ≡ true → Reach E body hs k r f ys
   r-at : (n : ℕ) → length ys < n → r ≡ lean body hs k n f ys → Reach E body hs k r f ys
 
 reach-one : {E : Type 0} (body : List ℕ → Result) (hs : List Head) (k n : ℕ) {r : Result} {f : Forest} {ys : List ℕ} → length ys < n →
     Gives E r f ys → Reach E body hs k (firstly r (λ f ys. lean body hs k n f ys)) f ys
-reach-one body hs k n {r} l (excused o e) = r-fault o (amiss-firstly is-nested _ (keeps-lean is-nested body hs k n) r e)
+reach-one body hs k n {r} l (excused o e) = r-fault o (amiss-firstly stops _ (keeps-lean stops body hs k n) r e)
 reach-one body hs k n l (agree e) = r-at n l (ap (λ (x : Result). firstly x (λ f ys. lean body hs k n f ys)) e)
 
 reach-more : {E : Type 0} {body : List ℕ → Result} {hs : List Head} {k : ℕ} {r : Result} {f g : Forest} {ys zs : List ℕ} →
@@ -61,7 +61,7 @@ unfolding lean
 reach-more (r-fault o e) a l w = r-fault o e
 reach-more (r-at zero m e) a l w = absurd (omega arith)
 reach-more {E} {body} {hs} {k} {r} {f} {g} {ys} {zs} (r-at (suc n) m e) a l (excused o w) =
-    r-fault o (rw (e, a) (amiss-after is-nested _ (keeps-lean-on is-nested body hs k n f) (body ys) w))
+    r-fault o (rw (e, a) (amiss-after stops _ (keeps-lean-on stops body hs k n f) (body ys) w))
 reach-more {E} {body} {hs} {k} {r} {f} {g} {ys} {zs} (r-at (suc n) m e) a l (agree w) = r-at n (omega arith) (e ∙ rw (a, w) refl)
 
 reach-end : {E : Type 0} {body : List ℕ → Result} {hs : List Head} {k : ℕ} {r : Result} {f : Forest} {ys : List ℕ} →
@@ -127,17 +127,17 @@ module _ (G : Grammar) (T : Tables G) (fine : Fine G T) where
           length xs < bound → (d : ℕ) → (d ≤ nest G a → E) → Gives E (stepped d p xs) f ys
       complete-step (d-tok {xs = xs} h i) g n l d w = agrees-first _ h (agrees-done xs i)
       complete-step (d-pair {k = k} {l = j} {ys = ys} i) g n l d w =
-          agrees-after _ (keeps-beside is-nested (take-one (G .shown) (expected j) (j ∷ []))) (gives-one (G .shown) (expected k) k (j ∷ ys))
-          (agrees-after _ (keeps-then is-nested (leaf (G .shown k) nil)) (gives-one (G .shown) (expected j) j ys) (agrees-done ys i))
+          agrees-after _ (keeps-beside stops (take-one (G .shown) (expected j) (j ∷ []))) (gives-one (G .shown) (expected k) k (j ∷ ys))
+          (agrees-after _ (keeps-then stops (leaf (G .shown k) nil)) (gives-one (G .shown) (expected j) j ys) (agrees-done ys i))
       complete-step (d-look {l = j} {xs = xs} h i) g n l d w = agrees-first _ (and-both _ _ h (eq-eqb j j refl)) (agrees-done (j ∷ xs) i)
       complete-step (d-any {xs = xs} i) g n l d w = agrees-done xs i
       complete-step d-any-end g n l d w = agree refl
       complete-step (d-longest {cs = cs} {c = c} {xs = xs} {ys = ys} {h = t} e v h i) g n l d w = rw (e, i) (gives-form (G .shown) c xs ys h)
       complete-step (d-no-form h) g n l d w = rw h (agree refl)
       complete-step (d-seq {p = p} {q = q} {f = f} {zs = zs} a b h) g n l d w =
-          agrees-after _ (keeps-beside is-nested (stepped d q))
+          agrees-after _ (keeps-beside stops (stepped d q))
           (complete-step a (good-seq g .former) (follows (end p) (begins G T fine b) (good-seq g .apart) (at-r (end q) _ zs n)) l d (λ o. w (omega arith)))
-          (agrees-after _ (keeps-then is-nested f)
+          (agrees-after _ (keeps-then stops f)
           (complete-step b (good-seq g .latter) (at-l (end q) _ zs n) (omega (arith, shrinks (begins G T fine a))) d (λ o. w (omega arith))) (agrees-done zs h))
       complete-step (d-left {p = p} {ys = ys} a) g n l d w =
           agrees-first _
@@ -156,25 +156,25 @@ module _ (G : Grammar) (T : Tables G) (fine : Fine G T) where
           let s = stands (begins G T fine a) (good-until g .begun) in
           agrees-second (take-one (G .shown) (expected k) (k ∷ []) xs)
           (or-l (is k xs) false (disjoint-excludes (first G p) (one k ∷ []) xs (good-until g .told) s))
-          (agrees-after _ (keeps-beside is-nested (take-one (G .shown) (expected k) (k ∷ [])))
+          (agrees-after _ (keeps-beside stops (take-one (G .shown) (expected k) (k ∷ [])))
           (complete-step a (good-until g .part)
           (disjoint-excludes (one k ∷ []) (end p) (k ∷ ys) (good-until g .apart) (has-one k)) l d (λ o. w (omega arith)))
-          (agrees-after _ (keeps-then is-nested f) (gives-one (G .shown) (expected k) k ys) (agrees-done ys h)))
+          (agrees-after _ (keeps-then stops f) (gives-one (G .shown) (expected k) k ys) (agrees-done ys h)))
       complete-step (d-at-once {k = k} {ys = ys} i) g n l d w = agrees-first _ (eq-eqb k k refl) (rw i (gives-one (G .shown) (expected k) k ys))
       complete-step (d-inside {k = k} a) g n l d w =
-          agrees-after _ (keeps-node is-nested k) (complete-step a (good-inside g) n l d (λ o. w (omega arith))) (agree refl)
+          agrees-after _ (keeps-node stops k) (complete-step a (good-inside g) n l d (λ o. w (omega arith))) (agree refl)
       complete-step (d-alone {c = c} {k = k} {p = p} {q = q} {ys = ys} a m) g n l d w =
-          agrees-firstly _ (keeps-suffix is-nested (stepped d q) (first G q) k)
+          agrees-firstly _ (keeps-suffix stops (stepped d q) (first G q) k)
           (complete-step a (good-suffix g .former) (at-l (end p) _ ys n) l d (λ o. w (omega arith)))
           (agrees-second _
           (absent c (first G q) ys (good-suffix g .told) m (at-r (end q) _ ys (at-r (end p) _ ys n))) (agree refl))
       complete-step (d-with {k = k} {p = p} {q = q} {f = f} {ys = ys} {zs = zs} a b) g n l d w =
           let s = stands (begins G T fine b) (good-suffix g .begun) in
-          agrees-firstly _ (keeps-suffix is-nested (stepped d q) (first G q) k)
+          agrees-firstly _ (keeps-suffix stops (stepped d q) (first G q) k)
           (complete-step a (good-suffix g .former)
           (disjoint-excludes (first G q) (end p) ys (good-suffix g .apart) s) l d (λ o. w (omega arith)))
           (agrees-first _ s
-          (agrees-after _ (keeps-wrap is-nested k f)
+          (agrees-after _ (keeps-wrap stops k f)
           (complete-step b (good-suffix g .latter) (at-l (end q) _ zs (at-r (end p) _ zs n)) (omega (arith, shrinks (begins G T fine a))) d (λ o. w (omega arith)))
           (agree refl)))
       complete-step (d-leaning {p = p} {q = q} {ys = ys} a) g n l d w =
@@ -182,7 +182,7 @@ module _ (G : Grammar) (T : Tables G) (fine : Fine G T) where
           (reach a g (at-neither (end p) (end q) ys (at-l (end p) _ ys n) (at-l (end q) _ ys (at-r (end p) _ ys n))) l d (λ o. w (omega arith)))
           (at-r (end q) _ ys (at-r (end p) _ ys n))
       complete-step (d-before {hs = hs} {p = p} {ys = ys} a m) g n l d w = complete-step a (good-before g .part) (minus-absent (end p) hs ys n m) l d w
-      complete-step (d-opens {xs = xs} a) g n l d w = gives-within d xs (λ o. w (omega arith)) (complete-step a (good-opens g) n l d w)
+      complete-step (d-opens {xs = xs} a) g n l d w = gives-within (G .deep) d xs (λ o. w (omega arith)) (complete-step a (good-opens g) n l d w)
       complete-step (d-rule {r = r} {xs = xs} {ys = ys} a) g n l d w =
           gives-rule d r xs (λ o. w (omega arith))
           (λ e q. complete-step a (good-rule fine r) (within-absent (end (G .rules r)) (T .ends-of r) ys (fine .ends-in r) n) l e (λ o. w (omega arith)))
@@ -196,9 +196,9 @@ module _ (G : Grammar) (T : Tables G) (fine : Fine G T) where
       complete-many (m-cons {p = p} {f = f} {zs = zs} a b h) g n l d w (suc m) o =
           let s = falls (begins G T fine a) (good-many g .begun) in
           agrees-first _ (stands (begins G T fine a) (good-many g .begun))
-          (agrees-after _ (keeps-beside is-nested (repeat (λ zs. stepped d p zs) (first G p) m))
+          (agrees-after _ (keeps-beside stops (repeat (λ zs. stepped d p zs) (first G p) m))
           (complete-step a (good-many g .part) (follows (end p) (begins-many G T fine b) (good-many g .apart) (at-l (end p) _ zs n)) l d (λ o. w (omega arith)))
-          (agrees-after _ (keeps-then is-nested f) (complete-many b g n (omega arith) d (λ o. w (omega arith)) m (omega arith)) (agrees-done zs h)))
+          (agrees-after _ (keeps-then stops f) (complete-many b g n (omega arith) d (λ o. w (omega arith)) m (omega arith)) (agrees-done zs h)))
 
       reach : {k : ℕ} {p q : Part (G .Rule)} {f : Forest} {xs ys : List ℕ} → (a : Leaning G k p q f xs ys) → Good G T (leaning k p q) →
           at (end p ++ end q) ys ≡ false → length xs < bound → (d : ℕ) → (d ≤ nest-leaning G a → E) →

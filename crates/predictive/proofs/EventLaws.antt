@@ -1,18 +1,16 @@
--- Laws of the events of a forest: which faults and how many tokens they hold, that forests side by side give their events one
--- after another, and what a forward parent changes: the one event that is the own Start of the first tree. Each law goes down
--- the forest; the events of a node are two appends, so `erring`, `taken` and `length` of an append are all that they need.
--- Assumes nothing.
+-- Laws of the events of a forest, and of a reading: which faults and how many tokens they hold, that forests side by side give their
+-- events one after another, and that a forward parent adds none. Each law goes down the forest; the events of a node are two appends,
+-- so `erring`, `taken` and `length` of an append are all that they need. Assumes nothing.
 use Prim.Native.Nat.{ℕ, suc, _+_}
 use mathlib.Core.Path.{_≡_, refl, sym, ap, _∙_}
-use mathlib.Core.Bool.{Bool, _||_, or-assoc}
+use mathlib.Core.Bool.{Bool, _||_, or-assoc, or-false}
 use mathlib.Core.List.{List, [], _∷_, _++_, append-assoc}
 use native.Mathlib.Omega.{arith}
-use lib.ListN.{length, set, length-append}
-use lib.Seq.{set-append-seam}
+use lib.ListN.{length, length-append}
 use Rattle.predictive.specs.Forest.{Forest, nil, leaf, err, node, wrap, _then_, Fault, leaves}
-use Rattle.predictive.specs.Events.{Event, start, token, finish, error, events, behind-start, taken, erring}
-use Rattle.predictive.proofs.Proper.{Whole, whole-node, whole-wrap}
-use Rattle.predictive.proofs.Faults.{faulty}
+use Rattle.predictive.specs.Reader.{Result, miss, done}
+use Rattle.predictive.specs.Events.{Event, start, token, finish, error, events, behind-start, events-of, taken, erring}
+use Rattle.predictive.proofs.Faults.{faulty, amiss}
 
 -- FAULTS AND TOKENS ----------------------------------------------------------------------------------------------------
 
@@ -34,12 +32,13 @@ erring-events q (node k i f) up =
     ∙ rw (erring-events q i 0, erring-events q f 0)
 erring-events q (wrap k a b f) up =
     erring-append q (events a (behind-start a) ++ (start k up ∷ events b 0)) (finish ∷ events f 0)
-    ∙ rw (
-      erring-append q (events a (behind-start a)) (start k up ∷ events b 0),
-      erring-events q a (behind-start a),
-      erring-events q b 0,
-      erring-events q f 0,
-    )
+    ∙ rw (erring-append q (events a (behind-start a)) (start k up ∷ events b 0), erring-events q a (behind-start a), erring-events q b 0, erring-events q f 0)
+
+-- An Error with a fault that passes the test is among the events just if the reading is amiss by that test.
+pub erring-reading : (q : Fault → Bool) (r : Result) → erring q (events-of r) ≡ amiss q r
+unfolding events-of erring amiss
+erring-reading q (miss m ys) = or-false (q m)
+erring-reading q (done f ys) = erring-events q f 0
 
 pub taken-append : (xs ys : List Event) → taken (xs ++ ys) ≡ taken xs + taken ys
 unfolding taken
@@ -55,13 +54,7 @@ taken-events nil up = refl
 taken-events (leaf k f) up = ap suc (taken-events f 0)
 taken-events (err m f) up = taken-events f 0
 taken-events (node k i f) up =
-    omega (
-      arith,
-      taken-append (events i 0) (finish ∷ events f 0),
-      length-append (leaves i) (leaves f),
-      taken-events i 0,
-      taken-events f 0,
-    )
+    omega (arith, taken-append (events i 0) (finish ∷ events f 0), length-append (leaves i) (leaves f), taken-events i 0, taken-events f 0)
 taken-events (wrap k a b f) up =
     omega (
       arith,
@@ -86,8 +79,6 @@ events-then (wrap k a b f) g =
     rw (events-then f g)
     (sym (append-assoc (events a (behind-start a) ++ (start k 0 ∷ events b 0)) (finish ∷ events f 0) (events g 0)))
 
--- FORWARD PARENTS ------------------------------------------------------------------------------------------------------
-
 -- A forward parent adds no event.
 pub length-events : (f : Forest) (up vp : ℕ) → length (events f up) ≡ length (events f vp)
 unfolding events
@@ -96,30 +87,3 @@ length-events (leaf k f) up vp = refl
 length-events (err m f) up vp = refl
 length-events (node k i f) up vp = refl
 length-events (wrap k a b f) up vp = simp length-append
-
--- Where the own Start of the first tree stands among its events.
-unfoldable pub main : Forest → ℕ
-unfolding events
-main nil = 0
-main (leaf k f) = 0
-main (err m f) = 0
-main (node k i f) = 0
-main (wrap k a b f) = length (events a (behind-start a))
-
--- The kind of the first tree, where that is a node.
-unfoldable pub own-kind : Forest → ℕ
-own-kind nil = 0
-own-kind (leaf k f) = 0
-own-kind (err m f) = 0
-own-kind (node k i f) = k
-own-kind (wrap k a b f) = k
-
--- The events of a whole tree with a forward parent are its events with one event changed: its own Start.
-pub precede-sets-one-event : (f : Forest) → Whole f → (up : ℕ) → events f up ≡ set (events f 0) (main f) (start (own-kind f) up)
-unfolding events main own-kind
-precede-sets-one-event (node k i nil) whole-node up = refl
-precede-sets-one-event (wrap k a b nil) whole-wrap up =
-    let before = events a (behind-start a) in
-    append-assoc before (start k up ∷ events b 0) (finish ∷ [])
-    ∙ rw (append-assoc before (start k 0 ∷ events b 0) (finish ∷ []))
-    (sym (set-append-seam before (start k 0) (events b 0 ++ (finish ∷ [])) (start k up)))

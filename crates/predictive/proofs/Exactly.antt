@@ -13,7 +13,7 @@ use Rattle.predictive.specs.Forest.{Forest, nil, leaf, leaves}
 use Rattle.predictive.specs.Grammar.{Form, row, row-in, broken, row-of, shape, whole-form, Part, Grammar}
 use Rattle.predictive.specs.Grammar.{Derives, Many, Leaning, d-tok, d-pair, d-look, d-any, d-any-end, d-longest, d-no-form, d-seq, d-left, d-right, d-some, d-none, d-many, d-until, d-at-once, d-inside, d-alone, d-with, d-leaning, d-before, d-opens, d-rule, m-nil, m-cons, l-one, l-more}
 use Rattle.predictive.specs.Reader.{done, read}
-use Rattle.predictive.specs.Events.{any-fault, is-nested}
+use Rattle.predictive.specs.Events.{any-fault, stops}
 use Rattle.predictive.proofs.Tests.{never}
 use Rattle.predictive.proofs.Faults.{faulty, amiss, faulty-row, clean-then, clean-node, clean-wrap, agrees-or, agrees-surely}
 use Rattle.predictive.proofs.Heads.{at-end}
@@ -80,7 +80,7 @@ module _ (G : Grammar) (T : Tables G) (fine : Fine G T) (p : Part (G .Rule)) (g 
 
   -- A derived text is read as its forest, unless an opener too many is met.
   pub derived-read : (bound d : ℕ) (xs : List ℕ) (f : Forest) → length xs < bound → Derives G p f xs [] →
-      (amiss is-nested (read G bound d p xs) ≡ true) ⊎ (read G bound d p xs ≡ done f [])
+      (amiss stops (read G bound d p xs) ≡ true) ⊎ (read G bound d p xs ≡ done f [])
   derived-read bound d xs f l a = agrees-or (complete G T fine bound (Unit {0}) d p g xs f [] a (at-end (ends G T p)) l (λ o. tt))
 
   -- A text has one forest at most.
@@ -106,9 +106,6 @@ module _ (G : Grammar) (T : Tables G) (fine : Fine G T) (p : Part (G .Rule)) (g 
       reading-proper G T fine (suc (length xs)) d p g xs f [] u
 
   -- Where no opener too many is met, a text is read to its end without a fault exactly if it is derived.
-  pub exactly : (bound d : ℕ) (xs : List ℕ) (f : Forest) → length xs < bound → amiss is-nested (read G bound d p xs) ≡ false →
+  pub exactly : (bound d : ℕ) (xs : List ℕ) (f : Forest) → length xs < bound → amiss stops (read G bound d p xs) ≡ false →
       ((read G bound d p xs ≡ done f []) × (faulty any-fault f ≡ false)) ↔ Derives G p f xs []
-  exactly bound d xs f l n = (
-    λ c. sound G T fine bound d p g xs f [] (c .0) (c .1),
-    λ a. (⊎-elim (λ e. never (sym n ∙ e)) (λ e. e) (derived-read bound d xs f l a), derived-clean G a),
-  )
+  exactly bound d xs f l n = (λ c. sound G T fine bound d p g xs f [] (c .0) (c .1), λ a. (⊎-elim (λ e. never (sym n ∙ e)) (λ e. e) (derived-read bound d xs f l a), derived-clean G a))

@@ -14,5 +14,6 @@ pub mod Relabel
 pub mod EventLaws
 pub mod Takes
 pub mod Bounds
+pub mod Replaced
 pub mod Spell
 pub mod Examples

@@ -191,11 +191,7 @@ module _ {G : Grammar} {T : Tables G} where
   unfolding good
   good-seq g =
       let e = g .tested in
-      record {
-        former = record { tested = left _ _ e };
-        latter = record { tested = left _ _ (right _ _ e) };
-        apart = right _ _ (right _ _ e);
-      }
+      record { former = record { tested = left _ _ e }; latter = record { tested = left _ _ (right _ _ e) }; apart = right _ _ (right _ _ e) }
 
   pub good-either : {c : Choice} {p q : Part (G .Rule)} → Good G T (either c p q) → Good-either G T c p q
   unfolding good
@@ -212,32 +208,19 @@ module _ {G : Grammar} {T : Tables G} where
   unfolding good
   good-opt g =
       let e = g .tested in
-      record {
-        part = record { tested = left _ _ e };
-        begun = left _ _ (right _ _ e);
-        told = right _ _ (right _ _ e);
-      }
+      record { part = record { tested = left _ _ e }; begun = left _ _ (right _ _ e); told = right _ _ (right _ _ e) }
 
   pub good-many : {p : Part (G .Rule)} → Good G T (many p) → Good-many G T p
   unfolding good
   good-many g =
       let e = g .tested in
-      record {
-        part = record { tested = left _ _ e };
-        begun = left _ _ (right _ _ e);
-        apart = right _ _ (right _ _ e);
-      }
+      record { part = record { tested = left _ _ e }; begun = left _ _ (right _ _ e); apart = right _ _ (right _ _ e) }
 
   pub good-until : {k : ℕ} {p : Part (G .Rule)} → Good G T (until k p) → Good-until G T k p
   unfolding good
   good-until g =
       let e = g .tested in
-      record {
-        part = record { tested = left _ _ e };
-        begun = left _ _ (right _ _ e);
-        told = left _ _ (right _ _ (right _ _ e));
-        apart = right _ _ (right _ _ (right _ _ e));
-      }
+      record { part = record { tested = left _ _ e }; begun = left _ _ (right _ _ e); told = left _ _ (right _ _ (right _ _ e)); apart = right _ _ (right _ _ (right _ _ e)) }
 
   pub good-suffix : {c : Choice} {k : ℕ} {p q : Part (G .Rule)} → Good G T (suffix c k p q) → Good-suffix G T c p q
   unfolding good
@@ -268,10 +251,7 @@ module _ {G : Grammar} {T : Tables G} where
   unfolding good
   good-before g =
       let e = g .tested in
-      record {
-        part = record { tested = left _ _ e };
-        closed = right _ _ e;
-      }
+      record { part = record { tested = left _ _ e }; closed = right _ _ e }
 
   pub good-inside : {k : ℕ} {p : Part (G .Rule)} → Good G T (inside k p) → Good G T p
   unfolding good

@@ -37,9 +37,9 @@ lone-pick : (b : Bool) (r s : Result) → Lone r → Lone s → Lone (pick b r s
 lone-pick true r s h i = h
 lone-pick false r s h i = i
 
-lone-within : (d : ℕ) (xs : List ℕ) (r : Result) → Lone r → Lone (within d xs r)
-lone-within zero xs r h = tt
-lone-within (suc d) xs r h = h
+lone-within : (n d : ℕ) (xs : List ℕ) (r : Result) → Lone r → Lone (within n d xs r)
+lone-within n zero xs r h = tt
+lone-within n (suc d) xs r h = h
 
 lone-wrong : (shown : ℕ → ℕ) (k m : ℕ) (xs : List ℕ) → Lone (take-wrong shown k m xs)
 unfolding take-wrong
@@ -74,7 +74,7 @@ module _ (G : Grammar) (bound d : ℕ) (inner : G .Rule → List ℕ → Result)
       (step G bound d inner p xs) (single-lone p xs s)
   single-lone (leaning k p q) xs s = lone-firstly _ (λ f ys l. lone-lean _ (first G q) k bound f ys l) (step G bound d inner p xs) (single-lone p xs s)
   single-lone (before hs p) xs s = single-lone p xs s
-  single-lone (opens p) xs s = lone-within d xs _ (single-lone p xs s)
+  single-lone (opens p) xs s = lone-within (G .deep) d xs _ (single-lone p xs s)
   single-lone (rule r) xs s = never s
 
 -- What a part of one node reads is one node.
@@ -122,9 +122,9 @@ module _ (G : Grammar) (Q : Forest → List ℕ → List ℕ → Type 0) (closed
   has-pick xs true r s t u = t refl
   has-pick xs false r s t u = u refl
 
-  has-within : (d : ℕ) (xs : List ℕ) (r : Result) → Has xs r → Has xs (within d xs r)
-  has-within zero xs r h = refl
-  has-within (suc d) xs r h = h
+  has-within : (n d : ℕ) (xs : List ℕ) (r : Result) → Has xs r → Has xs (within n d xs r)
+  has-within n zero xs r h = refl
+  has-within n (suc d) xs r h = h
 
   has-one : (m : ℕ) (ks xs : List ℕ) → Has xs (take-one (G .shown) m ks xs)
   unfolding take-one
@@ -229,7 +229,7 @@ module _ (G : Grammar) (Q : Forest → List ℕ → List ℕ → Type 0) (closed
           (λ f ys l i. has-lean (λ zs. stepped q zs) (λ zs. step-has q (good-leaning g .latter) zs) (first G q) xs k bound f ys l i)
           (stepped p xs) (single-lone G bound d inner p xs (good-leaning g .lone)) (step-has p (good-leaning g .former) xs)
       step-has (before hs p) g xs = step-has p (good-before g .part) xs
-      step-has (opens p) g xs = has-within d xs (stepped p xs) (step-has p (good-opens g) xs)
+      step-has (opens p) g xs = has-within (G .deep) d xs (stepped p xs) (step-has p (good-opens g) xs)
       step-has (rule r) g xs = inner-has r xs
 
     below-has : (d : ℕ) (r : G .Rule) (xs : List ℕ) → Has xs (below G bound d r xs)
@@ -242,12 +242,6 @@ module _ (G : Grammar) (Q : Forest → List ℕ → List ℕ → Type 0) (closed
         read G bound d p xs ≡ done f ys → Q f xs ys
     unfolding read
     reading-has d p g xs f ys e = subst (Has xs) e (step-has d (below G bound d) (below-has d) p (record { tested = g }) xs)
-
-    -- A part that is missing takes nothing.
-    pub reading-missing : (d : ℕ) (p : Part (G .Rule)) → good G T p ≡ true → (xs : List ℕ) (m : Fault) (ys : List ℕ) →
-        read G bound d p xs ≡ miss m ys → ys ≡ xs
-    unfolding read
-    reading-missing d p g xs m ys e = subst (Has xs) e (step-has d (below G bound d) (below-has d) p (record { tested = g }) xs)
 
 -- LEAVES ---------------------------------------------------------------------------------------------------------------
 

@@ -60,9 +60,9 @@ module _ (P : Forest → List ℕ → Type 0) where
   clean-pick true r s t u = t refl
   clean-pick false r s t u = u refl
 
-  clean-within : (d : ℕ) (xs : List ℕ) (r : Result) → If-clean P r → If-clean P (within d xs r)
-  clean-within zero xs r h = tt
-  clean-within (suc d) xs r h = h
+  clean-within : (n d : ℕ) (xs : List ℕ) (r : Result) → If-clean P r → If-clean P (within n d xs r)
+  clean-within n zero xs r h = tt
+  clean-within n (suc d) xs r h = h
 
 -- where a part may be left out or passed over, since none of its heads stands
 may-leave : (c : Choice) (hs : List Head) (xs : List ℕ) → fits c hs ≡ true → at hs xs ≡ false → May c xs
@@ -210,10 +210,7 @@ module _ (G : Grammar) (T : Tables G) (fine : Fine G T) (bound : ℕ) where
         (λ f ys r. record { derives = d-left (r .derives); shut = λ b h e s. r .shut b h (left _ _ e) s })
         (stepped p xs) (step-known p (good-either g .former) xs))
         (λ a. clean-map (Known q xs) _
-        (λ f ys r. record {
-          derives = d-right (r .derives) (may-pass c (first G p) (first G q) xs (good-either g .told) a);
-          shut = λ b h e s. r .shut b h (right _ _ e) s;
-        })
+        (λ f ys r. record { derives = d-right (r .derives) (may-pass c (first G p) (first G q) xs (good-either g .told) a); shut = λ b h e s. r .shut b h (right _ _ e) s })
         (stepped q xs) (step-known q (good-either g .latter) xs))
     step-known (opt c p) g xs =
         clean-pick (Known (opt c p) xs) (at (first G p) xs) _ _
@@ -273,14 +270,11 @@ module _ (G : Grammar) (T : Tables G) (fine : Fine G T) (bound : ℕ) where
         (λ f ys r. record { derives = d-before (r .derives) (all-shut-absent hs p xs ys f r (good-before g .closed)); shut = r .shut })
         (stepped p xs) (step-known p (good-before g .part) xs)
     step-known (opens p) g xs =
-        clean-within _ d xs _
+        clean-within _ (G .deep) d xs _
         (clean-map (Known p xs) _ (λ f ys r. record { derives = d-opens (r .derives); shut = r .shut }) (stepped p xs) (step-known p (good-opens g) xs))
     step-known (rule r) g xs =
         clean-map (Known (G .rules r) xs) _
-        (λ f ys a. record {
-          derives = d-rule (a .derives);
-          shut = λ b h e s. a .shut false h (shut-one (T .shut-of r) (G .rules r) h (fine .shut-in r) e) never;
-        })
+        (λ f ys a. record { derives = d-rule (a .derives); shut = λ b h e s. a .shut false h (shut-one (T .shut-of r) (G .rules r) h (fine .shut-in r) e) never })
         (inner r xs) (inner-known r xs)
 
   below-known : (d : ℕ) (r : G .Rule) (xs : List ℕ) → If-clean (Known (G .rules r) xs) (below G bound d r xs)

@@ -153,12 +153,7 @@ module _ (xs : List Event) (p : List Step) (lead : Leads xs p) (ys : List Event)
   steps-start up past u es quiet =
       let v = after (suc (length xs)) u in
       let still = quiet-pointed (length ys) up v past (λ j l. quiet (suc (length xs) + j) (omega arith)) in
-      rw (
-        append-assoc xs (start k up ∷ ys) es,
-        lead u k up (ys ++ es) (λ j l. quiet j (omega arith)),
-        does (pointed up v) es still,
-        chain-start k up (ys ++ es),
-      )
+      rw (append-assoc xs (start k up ∷ ys) es, lead u k up (ys ++ es) (λ j l. quiet j (omega arith)), does (pointed up v) es still, chain-start k up (ys ++ es))
       (simp append-assoc)
 
   -- with none
@@ -182,11 +177,7 @@ module _ (xs : List Event) (p : List Step) (lead : Leads xs p) (ys : List Event)
       let used : v 0 ≡ true = rw (eq-eqb (suc (length ys + 0)) to (omega arith)) in
       let same : (j : ℕ) → v (suc j) ≡ w j = λ j. rw (ne-eqb (suc (length ys + suc j)) to (λ e. omega arith)) (ap u (omega (arith, n))) in
       steps-start to (λ j l. ne-eqb (suc j) to (λ e. omega arith)) u (start l up ∷ es) (λ j l. quiet j (omega (arith, n)))
-      ∙ rw (
-        chain-append ys (start l up ∷ es),
-        used,
-        steps-same (pointed up (λ j. v (suc j))) (pointed up w) es (λ j. ap (λ (b : Bool). eqb (suc j) up || b) (same j)),
-      )
+      ∙ rw (chain-append ys (start l up ∷ es), used, steps-same (pointed up (λ j. v (suc j))) (pointed up w) es (λ j. ap (λ (b : Bool). eqb (suc j) up || b) (same j)))
 
 -- EVERY PROPER FOREST --------------------------------------------------------------------------------------------------
 

@@ -3,7 +3,7 @@ use Prim.Native.Nat.{ℕ, suc}
 use mathlib.Core.Bool.{Bool, true, false, _||_}
 use mathlib.Core.List.{List, [], _∷_, _++_}
 use lib.ListN.{length}
-use Rattle.predictive.specs.Forest.{Forest, nil, leaf, err, node, wrap, Fault, message, nested}
+use Rattle.predictive.specs.Forest.{Forest, nil, leaf, err, node, wrap, Fault, message, refusal}
 use Rattle.predictive.specs.Reader.{Result, miss, done}
 
 -- An event. The second number of a Start is its forward parent: how many events further on the Start stands in whose node it
@@ -61,6 +61,7 @@ erring q (error m ∷ es) = q m || erring q es
 abbrev pub any-fault : Fault → Bool
 any-fault m = true
 
-abbrev pub is-nested : Fault → Bool
-is-nested (message m) = false
-is-nested nested = true
+-- a refusal, at which the calls stop
+abbrev pub stops : Fault → Bool
+stops (message m) = false
+stops (refusal n) = true

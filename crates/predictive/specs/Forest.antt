@@ -2,10 +2,10 @@
 use Prim.Native.Nat.{ℕ}
 use mathlib.Core.List.{List, [], _∷_, _++_}
 
--- What a reading found amiss: a message of the grammar; or an opener too many, where the calls stop.
+-- What a reading found amiss: a message of the grammar; or a refusal of the calls, by its number, where they stop.
 pub data Fault : Type 0 where
   message : ℕ → Fault
-  nested : Fault
+  refusal : (number : ℕ) → Fault
 
 -- A list of trees: the first one, and the trees after it.
 pub data Forest : Type 0 where

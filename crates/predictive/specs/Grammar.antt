@@ -132,12 +132,14 @@ pub data Part (R : Type 0) : Type 0 where
   -- a rule, inside an opener
   rule : R → Part R
 
--- A grammar: its rules, the heads that each rule begins with, and the kind that a symbol's leaf shows.
+-- A grammar: its rules, the heads that each rule begins with, the kind that a symbol's leaf shows, and the number by which an opener
+-- too many is refused.
 pub record Grammar : Type 1 where
   pub Rule : Type 0
   pub rules : Rule → Part Rule
   pub firsts : Rule → List Head
   pub shown : ℕ → ℕ
+  pub deep : ℕ
 
 -- WHAT IS DERIVED ------------------------------------------------------------------------------------------------------
 

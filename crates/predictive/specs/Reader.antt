@@ -5,7 +5,7 @@ use mathlib.Core.Bool.{Bool, true, false, _&&_, _||_}
 use mathlib.Core.List.{List, [], _∷_, _++_}
 use mathlib.Core.Option.{Option, none, some}
 use lib.ListN.{length, drop}
-use Rattle.predictive.specs.Forest.{Forest, nil, leaf, err, node, wrap, _then_, Fault, message, nested}
+use Rattle.predictive.specs.Forest.{Forest, nil, leaf, err, node, wrap, _then_, Fault, message, refusal}
 use Rattle.predictive.specs.Grammar.{Head, one, two, all, is, at, has, Form, kinds-of, best, shape, Part, tok, pair, look, any, longest, wrong, fail, seq, either, opt, many, until, inside, suffix, leaning, before, opens, rule, Grammar}
 
 -- What a reading gives: the forest read, or the fault of a part whose first token is missing; and the symbols left.
@@ -121,10 +121,10 @@ lean body hs k (suc n) f xs =
     let r = after (body xs) (λ g ys. lean body hs k n (wrap k f g nil) ys) in
     pick (at hs xs) r (done f xs)
 
--- an opener, with d left: none left is a fault
-abbrev pub within : ℕ → List ℕ → Result → Result
-within zero xs r = miss nested xs
-within (suc d) xs r = r
+-- an opener, with d left: where none is left, the refusal n
+abbrev pub within : (n d : ℕ) → List ℕ → Result → Result
+within n zero xs r = miss (refusal n) xs
+within n (suc d) xs r = r
 
 -- The reader -----------------------------------------------------------------------------------------------------------
 
@@ -182,13 +182,13 @@ module _ (G : Grammar) where
     step d inner (before hs p) xs = step d inner p xs
     step d inner (opens p) xs =
         let r = step d inner p xs in
-        within d xs r
+        within (G .deep) d xs r
     step d inner (rule r) xs = inner r xs
 
     -- a rule inside an opener, where d were left before the opener
     unfoldable pub below : ℕ → G .Rule → List ℕ → Result
     unfolding step
-    below zero r xs = miss nested xs
+    below zero r xs = miss (refusal (G .deep)) xs
     below (suc d) r xs = step d (below d) (G .rules r) xs
 
     unfoldable pub read : ℕ → Part (G .Rule) → List ℕ → Result

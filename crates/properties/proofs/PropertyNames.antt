@@ -12,7 +12,6 @@ use Rattle.predictive.proofs.Tests.{never, or-l, or-r}
 use Rattle.predictive.proofs.Heads.{at-end, at-twos}
 use Rattle.predictive.proofs.Takes.{at-twos-both}
 use Rattle.aadl.specs.Symbols.{shown}
-use Rattle.aadl.specs.Reading.{event-word}
 use Rattle.aadl.specs.Section.{keywords, grammar, property-name}
 use Rattle.parser.specs.declared.Parser.{Parser}
 use Rattle.parser.specs.Input.{Input, rest}
@@ -52,5 +51,5 @@ module _ {inp : Input} {d m : ℕ} {p : Parser} {b : List ℕ} {r : Parser} {c :
   unfolding read step
   r-name-yes e x = r-same (λ n h. name-yes n d m (rest inp p) (stands-at inp (heads-of (property-name m)) p e h)) x
 
-  pub r-name-no : stands inp (heads-of (property-name m)) p ≡ false → Ran (push (event-word (error (message m)))) p b r c → Read inp d (property-name m) p b r c
+  pub r-name-no : stands inp (heads-of (property-name m)) p ≡ false → Ran (push (error (message m))) p b r c → Read inp d (property-name m) p b r c
   r-name-no e x = r-message (λ n h. name-no n d m (rest inp p) (stands-at inp (heads-of (property-name m)) p e h)) x

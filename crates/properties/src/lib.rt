@@ -46,148 +46,6 @@ ghost use Rattle.aadl.specs.Section as G;
 ghost use Rattle.parser.specs.Input.{input};
 ghost use Rattle.parser.specs.Reads.{Read};
 
-// A name that may begin an association, or a message.
-fn property_name(text: &[u8], toks: &[u32], events: &mut [u32], p: Parser, message: u8) -> Parser
-    ensures { λ r. ⌜ ((d : ℕ) → Read (input (now (text .entry)) (now (toks .entry))) d (G.property-name message) p (now (events .entry)) r (now (events .exit))) ⌝ }
-{
-    if at_name(text, toks, p) {
-        return bump_any(text, toks, events, p);
-    }
-    error(events, p, wide32(message))
-}
-
-// `::` and a name, if `::` stands.
-fn name_in_set(text: &[u8], toks: &[u32], events: &mut [u32], p: Parser) -> Parser
-    ensures { λ r. ⌜ ((d : ℕ) → Read (input (now (text .entry)) (now (toks .entry))) d (maybe (seq (G.token K.COLON-COLON) (G.property-name 2))) p (now (events .entry)) r (now (events .exit))) ⌝ }
-{
-    if at(text, toks, p, COLON_COLON) {
-        let p = bump(text, toks, events, p, COLON_COLON);
-        return property_name(text, toks, events, p, 2);
-    }
-    p
-}
-
-// The first name: an identifier, in most cases, and not worth a call.
-fn first_name(text: &[u8], toks: &[u32], events: &mut [u32], p: Parser) -> Parser
-    ensures { λ r. ⌜ ((d : ℕ) → Read (input (now (text .entry)) (now (toks .entry))) d (G.property-name 3) p (now (events .entry)) r (now (events .exit))) ⌝ }
-{
-    if at(text, toks, p, IDENT) {
-        return bump(text, toks, events, p, IDENT);
-    }
-    property_name(text, toks, events, p, 3)
-}
-
-// `Name` or `PropSet::Name`.
-fn property_ref(text: &[u8], toks: &[u32], events: &mut [u32], p: Parser) -> Parser
-    ensures { λ r. ⌜ ((d : ℕ) → Read (input (now (text .entry)) (now (toks .entry))) d (G.property-ref (G.property-name 3) (G.property-name 2)) p (now (events .entry)) r (now (events .exit))) ⌝ }
-{
-    let s = start(events, p);
-    let p = first_name(text, toks, events, s.p);
-    let p = name_in_set(text, toks, events, p);
-    let c = complete(events, p, s.m, PROPERTY_REF);
-    c.p
-}
-
-// `=>` or `+=>`.
-fn arrow(text: &[u8], toks: &[u32], events: &mut [u32], p: Parser) -> Parser
-    ensures { λ r. ⌜ ((d : ℕ) → Read (input (now (text .entry)) (now (toks .entry))) d G.arrow p (now (events .entry)) r (now (events .exit))) ⌝ }
-{
-    let kind = current(text, toks, p);
-    if (kind == FAT_ARROW) | (kind == PLUS_ARROW) {
-        return bump_any(text, toks, events, p);
-    }
-    error(events, p, 1)
-}
-
-// An expression, and the modes in which it holds, if they stand.
-fn property_value(text: &[u8], toks: &[u32], events: &mut [u32], p: Parser) -> Parser
-    ensures { λ r. ⌜ Read (input (now (text .entry)) (now (toks .entry))) (p .left) G.value p (now (events .entry)) r (now (events .exit)) ⌝ }
-{
-    let p = property_expression(text, toks, events, p);
-    if at_pair(text, toks, p, IN_KW, MODES_KW) {
-        let s = start(events, p);
-        let p = in_modes(text, toks, events, s.p);
-        let c = complete(events, p, s.m, MODAL_PROPERTY_VALUE);
-        return c.p;
-    }
-    p
-}
-
-// Values, with commas between them.
-fn property_values(text: &[u8], toks: &[u32], events: &mut [u32], p: Parser) -> Parser
-    ensures { λ r. ⌜ Read (input (now (text .entry)) (now (toks .entry))) (p .left) (G.commas G.value G.value) p (now (events .entry)) r (now (events .exit)) ⌝ }
-{
-    let mut v = p;
-    loop {
-        v = property_value(text, toks, events, v);
-        if !at(text, toks, v, COMMA) {
-            return v;
-        }
-        v = bump(text, toks, events, v, COMMA);
-    }
-}
-
-// Paths, with commas between them.
-fn paths(text: &[u8], toks: &[u32], events: &mut [u32], p: Parser) -> Parser
-    ensures { λ r. ⌜ ((d : ℕ) → Read (input (now (text .entry)) (now (toks .entry))) d (G.commas G.path G.path) p (now (events .entry)) r (now (events .exit))) ⌝ }
-{
-    let mut q = p;
-    loop {
-        q = containment_path(text, toks, events, q);
-        if !at(text, toks, q, COMMA) {
-            return q;
-        }
-        q = bump(text, toks, events, q, COMMA);
-    }
-}
-
-// `applies to` and paths, if `applies` stands.
-fn applies_to(text: &[u8], toks: &[u32], events: &mut [u32], p: Parser) -> Parser
-    ensures { λ r. ⌜ ((d : ℕ) → Read (input (now (text .entry)) (now (toks .entry))) d (maybe G.applies-to) p (now (events .entry)) r (now (events .exit))) ⌝ }
-{
-    if at(text, toks, p, APPLIES_KW) {
-        let s = start(events, p);
-        let p = bump(text, toks, events, s.p, APPLIES_KW);
-        let p = expect(text, toks, events, p, TO_KW);
-        let p = paths(text, toks, events, p);
-        let c = complete(events, p, s.m, APPLIES_TO);
-        return c.p;
-    }
-    p
-}
-
-// `in binding` and a classifier in parentheses, if `in binding` stands.
-fn in_binding(text: &[u8], toks: &[u32], events: &mut [u32], p: Parser) -> Parser
-    ensures { λ r. ⌜ Read (input (now (text .entry)) (now (toks .entry))) (p .left) (maybe G.in-binding) p (now (events .entry)) r (now (events .exit)) ⌝ }
-{
-    if at_pair(text, toks, p, IN_KW, BINDING_KW) {
-        let s = start(events, p);
-        let p = bump(text, toks, events, s.p, IN_KW);
-        let p = bump(text, toks, events, p, BINDING_KW);
-        let p = expect(text, toks, events, p, L_PAREN);
-        let p = classifier_ref(text, toks, events, p);
-        let p = expect(text, toks, events, p, R_PAREN);
-        let c = complete(events, p, s.m, IN_BINDING);
-        return c.p;
-    }
-    p
-}
-
-fn property_association(text: &[u8], toks: &[u32], events: &mut [u32], p: Parser) -> Parser
-    ensures { λ r. ⌜ Read (input (now (text .entry)) (now (toks .entry))) (p .left) G.read-association p (now (events .entry)) r (now (events .exit)) ⌝ }
-{
-    let s = start(events, p);
-    let p = property_ref(text, toks, events, s.p);
-    let p = arrow(text, toks, events, p);
-    let p = eat(text, toks, events, p, CONSTANT_KW);
-    let p = property_values(text, toks, events, p);
-    let p = applies_to(text, toks, events, p);
-    let p = in_binding(text, toks, events, p);
-    let p = expect(text, toks, events, p, SEMICOLON);
-    let c = complete(events, p, s.m, PROPERTY_ASSOCIATION);
-    c.p
-}
-
 // The section: `properties`, then `none;` or associations.
 pub fn property_section(text: &[u8], toks: &[u32], events: &mut [u32], p: Parser) -> Parser
     ensures { λ r. ⌜ Read (input (now (text .entry)) (now (toks .entry))) (p .left) G.section p (now (events .entry)) r (now (events .exit)) ⌝ }
@@ -205,4 +63,146 @@ pub fn property_section(text: &[u8], toks: &[u32], events: &mut [u32], p: Parser
     }
     let c = complete(events, q, s.m, PROPERTY_SECTION);
     c.p
+}
+
+fn property_association(text: &[u8], toks: &[u32], events: &mut [u32], p: Parser) -> Parser
+    ensures { λ r. ⌜ Read (input (now (text .entry)) (now (toks .entry))) (p .left) G.read-association p (now (events .entry)) r (now (events .exit)) ⌝ }
+{
+    let s = start(events, p);
+    let p = property_ref(text, toks, events, s.p);
+    let p = arrow(text, toks, events, p);
+    let p = eat(text, toks, events, p, CONSTANT_KW);
+    let p = property_values(text, toks, events, p);
+    let p = applies_to(text, toks, events, p);
+    let p = in_binding(text, toks, events, p);
+    let p = expect(text, toks, events, p, SEMICOLON);
+    let c = complete(events, p, s.m, PROPERTY_ASSOCIATION);
+    c.p
+}
+
+// `Name` or `PropSet::Name`.
+fn property_ref(text: &[u8], toks: &[u32], events: &mut [u32], p: Parser) -> Parser
+    ensures { λ r. ⌜ ((d : ℕ) → Read (input (now (text .entry)) (now (toks .entry))) d (G.property-ref (G.property-name 3) (G.property-name 2)) p (now (events .entry)) r (now (events .exit))) ⌝ }
+{
+    let s = start(events, p);
+    let p = first_name(text, toks, events, s.p);
+    let p = name_in_set(text, toks, events, p);
+    let c = complete(events, p, s.m, PROPERTY_REF);
+    c.p
+}
+
+// The first name: an identifier, in most cases, and not worth a call.
+fn first_name(text: &[u8], toks: &[u32], events: &mut [u32], p: Parser) -> Parser
+    ensures { λ r. ⌜ ((d : ℕ) → Read (input (now (text .entry)) (now (toks .entry))) d (G.property-name 3) p (now (events .entry)) r (now (events .exit))) ⌝ }
+{
+    if at(text, toks, p, IDENT) {
+        return bump(text, toks, events, p, IDENT);
+    }
+    property_name(text, toks, events, p, 3)
+}
+
+// `::` and a name, if `::` stands.
+fn name_in_set(text: &[u8], toks: &[u32], events: &mut [u32], p: Parser) -> Parser
+    ensures { λ r. ⌜ ((d : ℕ) → Read (input (now (text .entry)) (now (toks .entry))) d (maybe (seq (G.token K.COLON-COLON) (G.property-name 2))) p (now (events .entry)) r (now (events .exit))) ⌝ }
+{
+    if at(text, toks, p, COLON_COLON) {
+        let p = bump(text, toks, events, p, COLON_COLON);
+        return property_name(text, toks, events, p, 2);
+    }
+    p
+}
+
+// A name that may begin an association, or a message.
+fn property_name(text: &[u8], toks: &[u32], events: &mut [u32], p: Parser, message: u8) -> Parser
+    ensures { λ r. ⌜ ((d : ℕ) → Read (input (now (text .entry)) (now (toks .entry))) d (G.property-name message) p (now (events .entry)) r (now (events .exit))) ⌝ }
+{
+    if at_name(text, toks, p) {
+        return bump_any(text, toks, events, p);
+    }
+    error(events, p, wide32(message))
+}
+
+// `=>` or `+=>`.
+fn arrow(text: &[u8], toks: &[u32], events: &mut [u32], p: Parser) -> Parser
+    ensures { λ r. ⌜ ((d : ℕ) → Read (input (now (text .entry)) (now (toks .entry))) d G.arrow p (now (events .entry)) r (now (events .exit))) ⌝ }
+{
+    let kind = current(text, toks, p);
+    if (kind == FAT_ARROW) | (kind == PLUS_ARROW) {
+        return bump_any(text, toks, events, p);
+    }
+    error(events, p, 1)
+}
+
+// Values, with commas between them.
+fn property_values(text: &[u8], toks: &[u32], events: &mut [u32], p: Parser) -> Parser
+    ensures { λ r. ⌜ Read (input (now (text .entry)) (now (toks .entry))) (p .left) (G.commas G.value G.value) p (now (events .entry)) r (now (events .exit)) ⌝ }
+{
+    let mut v = p;
+    loop {
+        v = property_value(text, toks, events, v);
+        if !at(text, toks, v, COMMA) {
+            return v;
+        }
+        v = bump(text, toks, events, v, COMMA);
+    }
+}
+
+// An expression, and the modes in which it holds, if they stand.
+fn property_value(text: &[u8], toks: &[u32], events: &mut [u32], p: Parser) -> Parser
+    ensures { λ r. ⌜ Read (input (now (text .entry)) (now (toks .entry))) (p .left) G.value p (now (events .entry)) r (now (events .exit)) ⌝ }
+{
+    let p = property_expression(text, toks, events, p);
+    if at_pair(text, toks, p, IN_KW, MODES_KW) {
+        let s = start(events, p);
+        let p = in_modes(text, toks, events, s.p);
+        let c = complete(events, p, s.m, MODAL_PROPERTY_VALUE);
+        return c.p;
+    }
+    p
+}
+
+// `applies to` and paths, if `applies` stands.
+fn applies_to(text: &[u8], toks: &[u32], events: &mut [u32], p: Parser) -> Parser
+    ensures { λ r. ⌜ ((d : ℕ) → Read (input (now (text .entry)) (now (toks .entry))) d (maybe G.applies-to) p (now (events .entry)) r (now (events .exit))) ⌝ }
+{
+    if at(text, toks, p, APPLIES_KW) {
+        let s = start(events, p);
+        let p = bump(text, toks, events, s.p, APPLIES_KW);
+        let p = expect(text, toks, events, p, TO_KW);
+        let p = paths(text, toks, events, p);
+        let c = complete(events, p, s.m, APPLIES_TO);
+        return c.p;
+    }
+    p
+}
+
+// Paths, with commas between them.
+fn paths(text: &[u8], toks: &[u32], events: &mut [u32], p: Parser) -> Parser
+    ensures { λ r. ⌜ ((d : ℕ) → Read (input (now (text .entry)) (now (toks .entry))) d (G.commas G.path G.path) p (now (events .entry)) r (now (events .exit))) ⌝ }
+{
+    let mut q = p;
+    loop {
+        q = containment_path(text, toks, events, q);
+        if !at(text, toks, q, COMMA) {
+            return q;
+        }
+        q = bump(text, toks, events, q, COMMA);
+    }
+}
+
+// `in binding` and a classifier in parentheses, if `in binding` stands.
+fn in_binding(text: &[u8], toks: &[u32], events: &mut [u32], p: Parser) -> Parser
+    ensures { λ r. ⌜ Read (input (now (text .entry)) (now (toks .entry))) (p .left) (maybe G.in-binding) p (now (events .entry)) r (now (events .exit)) ⌝ }
+{
+    if at_pair(text, toks, p, IN_KW, BINDING_KW) {
+        let s = start(events, p);
+        let p = bump(text, toks, events, s.p, IN_KW);
+        let p = bump(text, toks, events, p, BINDING_KW);
+        let p = expect(text, toks, events, p, L_PAREN);
+        let p = classifier_ref(text, toks, events, p);
+        let p = expect(text, toks, events, p, R_PAREN);
+        let c = complete(events, p, s.m, IN_BINDING);
+        return c.p;
+    }
+    p
 }

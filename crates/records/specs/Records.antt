@@ -8,6 +8,7 @@ use lib.Dec.{eqb}
 use Rattle.aadl.specs.declared.Answer.{Answer}
 use Rattle.aadl.specs.Words.{bytes}
 use Rattle.aadl.specs.Listing.{decimal}
+use Rattle.aadl.specs.Encoding.{words-for}
 
 -- What every lent word holds before a call.
 abbrev pub old-word : ℕ
@@ -34,5 +35,5 @@ rest number used ws = cond (eqb number 0) (count old-word (drop used ws)) (count
 unfoldable pub record-lines : Answer → (tokens events : List ℕ) → List ℕ
 record-lines a ts es =
     ((line (bytes "answer") (a .number ∷ a .place ∷ a .tokens ∷ a .taken ∷ a .events ∷ []) ++ line (bytes "tokens") (take (a .tokens) ts))
-    ++ line (bytes "events") (take (a .events) es))
-    ++ line (bytes "rest") (rest (a .number) (a .tokens) ts ∷ rest (a .number) (a .events) es ∷ [])
+    ++ line (bytes "events") (take (words-for (a .events)) es))
+    ++ line (bytes "rest") (rest (a .number) (a .tokens) ts ∷ rest (a .number) (words-for (a .events)) es ∷ [])

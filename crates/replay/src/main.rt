@@ -9,9 +9,15 @@ use records::put_record;
 use streams::read_full;
 use streams::write_out;
 use writing::put_text;
-ghost use Prim.Native.Nat.{_+_, _*_, _<_};
+ghost use Prim.Native.Nat.{_≤_, _<_};
 ghost use mathlib.Core.Path.{_≡_};
-ghost use lib.ListN.{length};
+ghost use mathlib.Core.Bool.{false};
+ghost use lib.ListN.{length, replicate};
+ghost use Rattle.aadl.specs.Words.{bytes};
+ghost use Rattle.writing.specs.Written.{Wrote};
+ghost use Rattle.aadl.specs.Answers.{token-words, left-in};
+ghost use Rattle.replay.specs.Calls.{answer-of, events-left, called};
+ghost use Rattle.replay.specs.Heads.{number-at, record-head};
 
 // How many bytes and words of each sort the longest record has.
 const MOST: usize = 40000;
@@ -45,14 +51,19 @@ fn wide(b: u8) -> u32
     b as u32
 }
 
-// Four bytes as a number, the lowest first.
-fn number(a: u8, b: u8, c: u8, d: u8) -> u32
-    ensures { λ r. ⌜ r ≡ a + b * 256 + c * 65536 + d * 16777216 ⌝ }
+// Four bytes from a place on as a number, the lowest first.
+fn number_at(b: &[u8; 12], i: usize) -> u32
+    requires { ⌜ i ≤ 8 ⌝ }
+    ensures { λ r. ⌜ r ≡ number-at (now (b .entry)) i ⌝ }
 {
-    wide(a) + wide(b) * 256 + wide(c) * 65536 + wide(d) * 16777216
+    wide(b[i]) + wide(b[i + 1]) * 256 + wide(b[i + 2]) * 65536 + wide(b[i + 3]) * 16777216
 }
 
-fn answer(src: &[u8], tokens: &mut [u32], events: &mut [u32], only: bool) -> Answer {
+fn answer(src: &[u8], tokens: &mut [u32], events: &mut [u32], only: bool) -> Answer
+    ensures answered { λ r. ⌜ r ≡ answer-of only (now (src .entry)) (length (now (tokens .entry))) (length (now (events .entry))) ⌝ }
+    ensures token_words { λ r. ⌜ now (tokens .exit) ≡ left-in r (token-words (now (src .entry))) (now (tokens .entry)) ⌝ }
+    ensures event_words { λ r. ⌜ now (events .exit) ≡ events-left only r (now (src .entry)) (now (events .entry)) ⌝ }
+{
     if only {
         return lexer::tokenize(src, tokens);
     }
@@ -67,26 +78,32 @@ fn call(
     only: bool,
     out: &mut [u8],
     at: usize,
-) -> usize {
+) -> usize
+    ensures { λ r. ⌜ Wrote (now (out .entry)) at (called only (now (src .entry)) (length (now (tokens .entry))) (length (now (events .entry)))) (now (out .exit)) r ⌝ }
+{
     fill(tokens);
     fill(events);
     let a = answer(src, tokens, events, only);
     put_record(out, at, a, tokens, events)
 }
 
-fn head_of(b: &[u8; 12]) -> Head {
-    let events = number(b[8], b[9], b[10], b[11]);
+fn head_of(b: &[u8; 12]) -> Head
+    ensures { λ r. ⌜ r ≡ record-head (now (b .entry)) ⌝ }
+{
+    let events = number_at(b, 8);
     let only = events == TOKENS_ONLY;
     Head {
-        text: number(b[0], b[1], b[2], b[3]) as usize,
-        tokens: number(b[4], b[5], b[6], b[7]) as usize,
+        text: number_at(b, 0) as usize,
+        tokens: number_at(b, 4) as usize,
         events: if only { 0 } else { events as usize },
         only,
     }
 }
 
 // The line for a record that ends early or asks for too much, after which nothing more is read.
-fn bad(out: &mut [u8], at: usize) -> Step {
+fn bad(out: &mut [u8], at: usize) -> Step
+    ensures { λ r. ⌜ Wrote (now (out .entry)) at (bytes "bad record\n") (now (out .exit)) (r .at) × (r .on ≡ false) ⌝ }
+{
     let next = put_text(out, at, b"bad record\n");
     Step {
         at: next,
@@ -95,7 +112,9 @@ fn bad(out: &mut [u8], at: usize) -> Step {
 }
 
 // A read failed: that is told, and nothing more is written.
-fn failed() -> Step {
+fn failed() -> Step
+    ensures { λ r. ⌜ (r .at ≡ 0) × (r .on ≡ false) ⌝ }
+{
     os::fail(b"standard input");
     Step { at: 0, on: false }
 }
@@ -204,9 +223,9 @@ fn turns(text: &mut [u8], tokens: &mut [u32], events: &mut [u32], out: &mut [u8]
     at
 }
 
-// Zeros, for the bytes that wait. The `ensures` gives the length, which lending them asks for.
+// Zeros, for the bytes that wait. The `ensures` gives the length too, which lending them asks for.
 fn waiting() -> [u8; OUT]
-    ensures { λ r. ⌜ 1048576 ≡ length r ⌝ }
+    ensures { λ r. ⌜ (r ≡ replicate 1048576 0) × (1048576 ≡ length r) ⌝ }
 {
     [0; OUT]
 }

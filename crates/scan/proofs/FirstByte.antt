@@ -30,7 +30,7 @@ pub record Sorted (k b : ℕ) : Type 0 where
   pub quote : eqb b 34 ≡ eqb k (# STRING-LIT)
   pub digit : is-digit b ≡ eqb k (# INTEGER-LIT)
   pub name : is-ident-start b ≡ eqb k (# IDENT)
-  pub dash : (eqb b 45 && ltb k BEGINS-OTHERS) ≡ false
+  dash : (eqb b 45 && ltb k BEGINS-OTHERS) ≡ false
 
 agree : (p : ℕ → Bool) (c : ℕ) → below (λ (b : ℕ). Bool·beq (p b) (eqb (lead-of b) c)) 256 ≡ true → (b : ℕ) → b < 256 → p b ≡ eqb (lead-of b) c
 agree p c t b h = beq-true (p b) (eqb (lead-of b) c) (below-at (λ (b : ℕ). Bool·beq (p b) (eqb (lead-of b) c)) 256 t b h)

@@ -60,7 +60,7 @@ stand-at (k ∷ ks) (x ∷ xs) zero h e = and-l (eqb x k) (stand ks xs) e
 stand-at (k ∷ ks) (x ∷ xs) (suc i) h e = stand-at ks xs i (le-of-suc-le-suc h) (and-r (eqb x k) (stand ks xs) e)
 
 -- a byte that no longer mark has at that place shuts all of them out
-pub longer-from : (i : ℕ) (ms : List String) (xs : List ℕ) → i < 2 → in-longer i ms (peek xs i) ≡ false → longer-stands ms xs ≡ false
+longer-from : (i : ℕ) (ms : List String) (xs : List ℕ) → i < 2 → in-longer i ms (peek xs i) ≡ false → longer-stands ms xs ≡ false
 longer-from i [] xs h e = refl
 longer-from i (m ∷ ms) xs h e =
     let this = leb 2 (length (bytes m)) && eqb (peek xs i) (getD (bytes m) i 0) in
@@ -111,10 +111,10 @@ three-peeks (a ∷ b ∷ []) = refl
 three-peeks (a ∷ b ∷ c ∷ bs) = refl
 
 module _ (s : List ℕ) (at : ℕ) (w : Window) (e : w ≡ window-of s at) where
-  pub window-first : w .first ≡ peek (drop at s) 0
+  window-first : w .first ≡ peek (drop at s) 0
   window-first = ap (λ (v : Window). v .first) e ∙ ap (peek s) (sym (add-zero at)) ∙ sym (getD-drop at s 0 0)
 
-  pub window-second : w .second ≡ peek (drop at s) 1
+  window-second : w .second ≡ peek (drop at s) 1
   window-second = ap (λ (v : Window). v .second) e ∙ sym (getD-drop at s 1 0)
 
   pub longest-of-window : longest (w .first ∷ w .second ∷ w .third ∷ []) ≡ longest (drop at s)
@@ -165,7 +165,7 @@ lone-token s at k h e =
     ∙ ap token-of (sym (drop-cons s at 0 (h .inside)))
 
 -- the mark that the byte itself is
-pub other-single : (s : List ℕ) (at k : ℕ) → Begins s at k → Other k → single (k % 64) ≡ longest (peek (drop at s) 0 ∷ [])
+other-single : (s : List ℕ) (at k : ℕ) → Begins s at k → Other k → single (k % 64) ≡ longest (peek (drop at s) 0 ∷ [])
 unfolding marks
 other-single s at k h o =
     let b = getD s at 0 in

@@ -55,12 +55,7 @@ module _ (s : List ℕ) (from bound i : ℕ) (g : Going s from bound i) where
   pub going-on : (j : ℕ) → j ≡ i + 1 → is-ident-continue (getD s i 0) ≡ true → Going s from bound j
   going-on j n e =
       let l : i < bound = ⊎-elim (λ q. never (sym (g .bounds .ends (g .some)) ∙ ap (λ (j : ℕ). is-ident-continue (getD s j 0)) (sym q) ∙ e)) (λ l. l) (eq-or-lt-of-le (g .before)) in
-      record {
-        bounds = g .bounds;
-        some = g .some;
-        before = omega arith;
-        same = ap (run-end is-ident-continue s) n ∙ sym (run-more is-ident-continue s i going-inside e) ∙ g .same;
-      }
+      record { bounds = g .bounds; some = g .some; before = omega arith; same = ap (run-end is-ident-continue s) n ∙ sym (run-more is-ident-continue s i going-inside e) ∙ g .same }
 
   pub going-stops : is-ident-continue (getD s i 0) ≡ false → (i ≡ run-end is-ident-continue s from) × (i ≤ length s)
   going-stops e = (sym (run-stop is-ident-continue s i going-inside e) ∙ g .same, omega (arith, going-inside))

@@ -1,143 +1,114 @@
--- The three demands on the section call, as theorems about any text, any lent words old and last, and the answer a and the words ts
--- and es that the call then gives: `Called` is what the call's contract says of them. All that is cited is aadl's. Assumes nothing.
-use Prim.Native.Nat.{ℕ, min}
+-- The three demands on the section call, as theorems about any limits and text, any lent words old and last, and the answer a and the
+-- words ts and es that the call then gives: `Called` is what the call's contract says of them. What they rest on is aadl's. Assumes nothing.
+use Prim.Native.Nat.{ℕ, _<_}
+use native.Mathlib.Omega.{arith}
 use mathlib.Core.Path.{_≡_, refl, sym, ap, subst, _∙_}
-use mathlib.Core.Logic.{_⊎_, inl, inr, ⊎-elim}
-use mathlib.Core.Bool.{true, false}
+use mathlib.Core.Logic.{_↔_}
+use mathlib.Core.Bool.{Bool, true, not, _&&_}
 use mathlib.Core.List.{List, [], _∷_, _++_}
-use lib.ListN.{length, drop, replicate}
-use Rattle.predictive.specs.Events.{taken}
+use lib.ListN.{length, take, length-map}
+use lib.Seq.{take-at}
+use lib.Dec.{eqb}
+use borrow.Author.Tests.{eq-eqb, eqb-true, ltb-false, not-true}
+use Rattle.predictive.specs.Events.{erring, any-fault}
+use Rattle.predictive.proofs.Tests.{and-l, and-r}
 use Rattle.aadl.specs.declared.Answer.{Answer}
-use Rattle.aadl.specs.Limits.{base, most-events}
-use Rattle.aadl.specs.Tokens.{tokens}
-use Rattle.aadl.specs.Symbols.{symbols}
+use Rattle.aadl.specs.declared.Limits.{Limits}
+use Rattle.aadl.specs.Limits.{Allowed}
+use Rattle.aadl.specs.Tokens.{tokens, token-word}
+use Rattle.aadl.specs.Symbols.{symbols, kinds}
+use Rattle.aadl.specs.Encoding.{event-word, room, words-for}
 use Rattle.aadl.specs.Reading.{events}
-use Rattle.aadl.specs.Answers.{Check, check, text-checks, section-checks, answered, refused, checked, section-answer, left-in, token-words, event-words}
-use Rattle.aadl.specs.Demand.{Read-as-derived}
-use Rattle.aadl.proofs.Lists.{Each}
-use Rattle.aadl.proofs.Checks.{Numbered, section-numbered}
-use Rattle.aadl.proofs.AnswerLaws.{left-answered}
+use Rattle.aadl.specs.Answers.{Check, text-checks, section-checks, all-answered, section-answer, left-in, token-words, event-words}
+use Rattle.aadl.specs.Demand.{answered-events, Clean-answer, solid-words, is-clean, Read-as-derived}
+use Rattle.aadl.proofs.Checks.{fails-by}
+use Rattle.aadl.proofs.Settled.{Lent, lent, five-numbers, Answered-whole, Settled, settled, whole}
 use Rattle.aadl.proofs.AnswerDerived.{answer-derived}
-use Rattle.section.proofs.Refusing.{left-by-refusal}
+use Rattle.section.proofs.CleanLaws.{solid-kinds}
 
 -- What the contract of the section call says of its answer a and the token and event words ts and es, where the words old and last were lent.
-pub record Called (text old last : List ℕ) (a : Answer) (ts es : List ℕ) : Type 0 where
-  pub answer : a ≡ section-answer base text (length old) (length last)
-  pub token-words-left : ts ≡ left-in (section-answer base text (length old) (length last)) (token-words text) old
-  pub event-words-left : es ≡ left-in (section-answer base text (length old) (length last)) (event-words base text) last
-
--- DEMAND 1 -------------------------------------------------------------------------------------------------------------
+pub record Called (limits : Limits) (text old last : List ℕ) (a : Answer) (ts es : List ℕ) : Type 0 where
+  pub answer : a ≡ section-answer limits text (length old) (length last)
+  pub token-words-left : ts ≡ left-in (section-answer limits text (length old) (length last)) (token-words text) old
+  pub event-words-left : es ≡ left-in (section-answer limits text (length old) (length last)) (event-words limits text) last
 
 -- 01's six checks in their order
-abbrev pub checks : (text old last : List ℕ) → List Check
-checks text old last = text-checks base text (length old) ++ section-checks base text (min (length last) most-events)
+abbrev pub checks : Limits → (text old last : List ℕ) → List Check
+checks limits text old last = text-checks limits text (length old) ++ section-checks limits text (room (length last))
 
--- No check's case holds.
-abbrev pub None : List Check → Type 0
-None [] = Unit {0}
-None (check n case place ∷ cs) = (case ≡ false) × None cs
+-- the lent buffers
+abbrev pub buffers : Limits → (text old last ts es : List ℕ) → List Lent
+buffers limits text old last ts es = lent old (token-words text) ts ∷ lent last (event-words limits text) es ∷ []
 
--- The check with this number and place is the first whose case holds.
-abbrev pub First : List Check → (number place : ℕ) → Type 0
-First [] k q = ⊥
-First (check n case place ∷ cs) k q = ((case ≡ true) × ((n ≡ k) × (place ≡ q))) ⊎ ((case ≡ false) × First cs k q)
+module _ {limits : Limits} {text old last : List ℕ} {a : Answer} {ts es : List ℕ} (c : Called limits text old last a ts es) where
+  tokens-left : ts ≡ left-in a (token-words text) old
+  tokens-left = c .token-words-left ∙ ap (λ (r : Answer). left-in r (token-words text) old) (sym (c .answer))
 
--- What is answered where nothing is refused.
-abbrev pub all-of : (text : List ℕ) → Answer
-all-of text = answered (length (tokens text)) (taken (events base (symbols text))) (length (events base (symbols text)))
+  events-left : es ≡ left-in a (event-words limits text) last
+  events-left = c .event-words-left ∙ ap (λ (r : Answer). left-in r (event-words limits text) last) (sym (c .answer))
 
--- counts, with both buffers filled from the front
-pub record Filled (text old last : List ℕ) (a : Answer) (ts es : List ℕ) : Type 0 where
-  pub none : None (checks text old last)
-  pub counts : a ≡ all-of text
-  pub token-words-fill : ts ≡ token-words text ++ drop (length (token-words text)) old
-  pub event-words-fill : es ≡ event-words base text ++ drop (length (event-words base text)) last
+  -- Demand 1. Every answer is settled: counts with both buffers filled, or a refusal in its stated case only, with its place, zero counts
+  -- and zero buffers.
+  pub every-answer-is-settled : Settled five-numbers (checks limits text old last) (all-answered limits text) a (buffers limits text old last ts es)
+  unfolding section-answer left-in
+  every-answer-is-settled =
+      settled five-numbers (checks limits text old last) refl (all-answered limits text) a (c .answer) refl (buffers limits text old last ts es) (tokens-left, (events-left, tt))
 
--- a refusal in its case, with its place, zero counts and zero buffers
-pub record Refused (text old last : List ℕ) (a : Answer) (ts es : List ℕ) : Type 0 where
-  pub number : ℕ
-  pub place : ℕ
-  pub first : First (checks text old last) number place
-  pub no-counts : a ≡ refused number place
-  pub token-words-zero : ts ≡ replicate (length old) 0
-  pub event-words-zero : es ≡ replicate (length last) 0
+  -- Where nothing is refused, the words that an answer counts are the text's.
+  abbrev Whole : Type 0
+  Whole = Answered-whole five-numbers (checks limits text old last) (all-answered limits text) a (buffers limits text old last ts es)
 
--- Either no case holds and nothing is refused, or the first that holds refuses.
-settles : (cs : List Check) (a : Answer) → (None cs × (checked cs a ≡ a)) ⊎ ((n : ℕ) × ((p : ℕ) × (First cs n p × (checked cs a ≡ refused n p))))
-settles [] a = inl (tt, refl)
-settles (check n true p ∷ cs) a = inr (n, (p, (inl (refl, (refl, refl)), refl)))
-settles (check n false p ∷ cs) a =
-    ⊎-elim
-    (λ x. inl ((refl, x .0), x .1))
-    (λ x. inr (x .0, (x .1 .0, (inr (refl, x .1 .1 .0), x .1 .1 .1))))
-    (settles cs a)
+  whole-answer : a .number ≡ 0 → Whole
+  unfolding section-answer left-in
+  whole-answer =
+      whole five-numbers (checks limits text old last) refl (all-answered limits text) a (c .answer) refl (buffers limits text old last ts es) (tokens-left, (events-left, tt))
 
--- the numbers are not 0
-pub first-numbered : (cs : List Check) (n p : ℕ) → Each Numbered cs → First cs n p → n ≡ 0 → ⊥
-first-numbered [] n p h f e = f
-first-numbered (check k case q ∷ cs) n p h f e =
-    ⊎-elim (λ x. h .0 (x .1 .0 ∙ e)) (λ x. first-numbered cs n p (h .1) (x .1) e) f
+  pub counted-tokens : Whole → take (a .tokens) ts ≡ token-words text
+  counted-tokens x = (λ i. take (x .counts i .tokens) (x .filled .0 i)) ∙ take-at (token-words text) _ (length (tokens text)) (length-map (tokens text) token-word)
 
-all-left : (text ws old : List ℕ) → left-in (all-of text) ws old ≡ ws ++ drop (length ws) old
-all-left text = left-answered (length (tokens text)) (taken (events base (symbols text))) (length (events base (symbols text)))
+  pub counted-events : Whole → take (words-for (a .events)) es ≡ event-words limits text
+  counted-events x =
+      (λ i. take (x .counts i .events) (x .filled .1 .0 i))
+      ∙ take-at (event-words limits text) _ (length (events limits (symbols text))) (length-map (events limits (symbols text)) event-word)
 
--- Every answer is settled: counts with both filled buffers, or a refusal in its stated case only, with its place, zero counts and
--- zero buffers.
-pub every-answer-is-settled : {text old last : List ℕ} {a : Answer} {ts es : List ℕ} → Called text old last a ts es →
-    Filled text old last a ts es ⊎ Refused text old last a ts es
-unfolding section-answer
-every-answer-is-settled {text} {old} {last} {a} {ts} {es} c =
-    ⊎-elim (λ x. inl (filled x)) (λ x. inr (zeroed (x .0) (x .1 .0) (x .1 .1 .0) (x .1 .1 .1)))
-    (settles (checks text old last) (all-of text))
-  where
-    filled : None (checks text old last) × (checked (checks text old last) (all-of text) ≡ all-of text) → Filled text old last a ts es
-    filled x =
-        record {
-          none = x .0;
-          counts = c .answer ∙ x .1;
-          token-words-fill =
-              c .token-words-left ∙ ap (λ (r : Answer). left-in r (token-words text) old) (x .1) ∙ all-left text (token-words text) old;
-          event-words-fill =
-              c .event-words-left ∙ ap (λ (r : Answer). left-in r (event-words base text) last) (x .1) ∙ all-left text (event-words base text) last;
-        }
+  -- Demand 2. The answer and every word at exit are those of the reading that is defined from 01, which was run against the Rust.
+  pub every-answer-is-the-reading :
+      (a ≡ section-answer limits text (length old) (length last)) × ((ts ≡ left-in a (token-words text) old) × (es ≡ left-in a (event-words limits text) last))
+  every-answer-is-the-reading = (c .answer, (tokens-left, events-left))
 
-    zeroed : (n p : ℕ) → First (checks text old last) n p → checked (checks text old last) (all-of text) ≡ refused n p →
-        Refused text old last a ts es
-    zeroed n p f q =
-        let z = first-numbered (checks text old last) n p (section-numbered base text (length old) (min (length last) most-events)) f in
-        record {
-          number = n;
-          place = p;
-          first = f;
-          no-counts = c .answer ∙ q;
-          token-words-zero =
-              c .token-words-left ∙ ap (λ (r : Answer). left-in r (token-words text) old) q ∙ left-by-refusal (refused n p) (token-words text) old z;
-          event-words-zero =
-              c .event-words-left ∙ ap (λ (r : Answer). left-in r (event-words base text) last) q
-              ∙ left-by-refusal (refused n p) (event-words base text) last z;
-        }
+  -- Demand 3. An answer that refuses nothing is read as derived: cleanly exactly when 01's section grammar derives the kinds of the
+  -- text's non-trivia tokens; by one derivation; and the tree that the answered events spell is it.
+  pub every-reading-is-derived : a .number ≡ 0 → Read-as-derived text a es
+  every-reading-is-derived z =
+      let q = c .answer in
+      subst (λ (r : Answer). Read-as-derived text r es) (sym q)
+      (subst (λ (l : List ℕ). Read-as-derived text (section-answer limits text (length old) (length last)) l) (sym (c .event-words-left))
+      (answer-derived limits text (length old) (length last) last (ap (λ (r : Answer). r .number) (sym q) ∙ z)))
 
--- DEMAND 2 -------------------------------------------------------------------------------------------------------------
+  -- The test of the function `is_clean` is exact: it tells whether the answer is clean as demand 3 has it.
+  pub clean-is-told : Allowed limits → a .number ≡ 0 → (is-clean a ts es ≡ true) ↔ Clean-answer text a es
+  unfolding is-clean
+  clean-is-told h z = (λ e. clean e, λ c. told c)
+    where
+      short : length text < 65536
+      short = omega (arith, h, ltb-false (limits .bytes) (length text) (fails-by 1 (checks limits text old last) (whole-answer z .none)))
 
--- The answer and every word at exit are those of the reading that is defined from 01, which was run against the Rust.
-pub every-answer-is-the-reading : {text old last : List ℕ} {a : Answer} {ts es : List ℕ} → Called text old last a ts es →
-    (a ≡ section-answer base text (length old) (length last)) × ((ts ≡ left-in a (token-words text) old) × (es ≡ left-in a (event-words base text) last))
-every-answer-is-the-reading {text} {old} {last} {a} {ts} {es} c = (
-  c .answer,
-  (
-    c .token-words-left ∙ ap (λ (r : Answer). left-in r (token-words text) old) (sym (c .answer)),
-    c .event-words-left ∙ ap (λ (r : Answer). left-in r (event-words base text) last) (sym (c .answer)),
-  ),
-)
+      solid : solid-words (take (a .tokens) ts) ≡ length (kinds text)
+      solid = ap solid-words (counted-tokens (whole-answer z)) ∙ solid-kinds text short
 
--- DEMAND 3 -------------------------------------------------------------------------------------------------------------
+      erring-here : Bool
+      erring-here = erring any-fault (answered-events a es)
 
--- An answer that refuses nothing is read as derived: cleanly exactly when 01's section grammar derives the kinds of the text's
--- non-trivia tokens; by one derivation; and the tree that the answered events spell is it.
-pub every-reading-is-derived : {text old last : List ℕ} {a : Answer} {ts es : List ℕ} → Called text old last a ts es →
-    a .number ≡ 0 → Read-as-derived text a es
-every-reading-is-derived {text} {old} {last} {a} {ts} {es} c z =
-    let q = c .answer in
-    subst (λ (r : Answer). Read-as-derived text r es) (sym q)
-    (subst (λ (l : List ℕ). Read-as-derived text (section-answer base text (length old) (length last)) l) (sym (c .event-words-left))
-    (answer-derived base text (length old) (length last) last (ap (λ (r : Answer). r .number) (sym q) ∙ z)))
+      all-here : Bool
+      all-here = eqb (a .taken) (solid-words (take (a .tokens) ts))
+
+      clean : is-clean a ts es ≡ true → Clean-answer text a es
+      clean e =
+          let f = and-r (eqb (a .number) 0) (not erring-here && all-here) e in
+          record {
+            no-error = not-true erring-here (and-l (not erring-here) all-here f);
+            all-taken = eqb-true (a .taken) (solid-words (take (a .tokens) ts)) (and-r (not erring-here) all-here f) ∙ solid;
+          }
+
+      told : Clean-answer text a es → is-clean a ts es ≡ true
+      told c = rw (eq-eqb (a .number) 0 z, c .no-error, eq-eqb (a .taken) (solid-words (take (a .tokens) ts)) (c .all-taken ∙ sym solid)) refl

@@ -1,7 +1,7 @@
 pub mod WordsBack
 pub mod Places
-pub mod Refusing
 pub mod Advancing
 pub mod Sectioning
+pub mod CleanLaws
 pub mod Demands
 pub mod Answering

@@ -1,6 +1,6 @@
 -- Where a parser stands among a text's non-trivia tokens. The tokens tile the text, so a start is never capped at its end; after the
 -- trivia are skipped the parser's byte is the start of the next non-trivia token, or the text's length. Assumes nothing.
-use Prim.Native.Nat.{ℕ, zero, suc, _+_, _≤_}
+use Prim.Native.Nat.{ℕ, zero, suc, _+_, _<_}
 use native.Mathlib.Omega.{arith}
 use native.Mathlib.Numerals.{add-one}
 use mathlib.Core.Path.{_≡_, refl, sym, ap, subst, _∙_}
@@ -9,12 +9,12 @@ use mathlib.Core.List.{List, [], _∷_, map}
 use lib.ListN.{length, getD, drop}
 use lib.Seq.{drop-drop}
 use Rattle.aadl.specs.Bytes.{peek}
-use Rattle.aadl.specs.Tokens.{tokens, length-in, total}
+use Rattle.aadl.specs.Tokens.{kind-in, tokens, length-in, total}
 use Rattle.aadl.specs.Symbols.{is-trivia, symbol-of, Placed, placed, symbols, start-of}
 use Rattle.aadl.specs.Answers.{token-words}
 use Rattle.parser.specs.declared.Parser.{Parser}
 use Rattle.parser.specs.declared.Place.{Place}
-use Rattle.parser.specs.Input.{input, kind-in, token-in, standing, rest, past, skip, after-one, next, new}
+use Rattle.parser.specs.Input.{input, token-in, standing, rest, past, skip, after-one, next, new}
 use Rattle.section.proofs.WordsBack.{token-words-back, total-token-words}
 
 -- the non-trivia tokens of words, the first of which starts at a byte
@@ -41,11 +41,7 @@ module _ (text ws : List ℕ) where
   stood : (ps : List Placed) (i b : ℕ) (vs : List ℕ) → drop i ws ≡ vs → b + total vs ≡ length text → placed-words text b vs ≡ ps → Solid vs →
       Stood text ws ps i b
   stood ps i b vs e t s n =
-      record {
-        tiles = subst (λ (l : List ℕ). b + total l ≡ length text) (sym e) t;
-        shows = ap (placed-words text b) e ∙ s;
-        solid = subst Solid (sym e) n;
-      }
+      record { tiles = subst (λ (l : List ℕ). b + total l ≡ length text) (sym e) t; shows = ap (placed-words text b) e ∙ s; solid = subst Solid (sym e) n }
 
   next-drop : (i w : ℕ) (vs : List ℕ) → drop i ws ≡ w ∷ vs → drop (suc i) ws ≡ vs
   next-drop i w vs e = ap (λ (n : ℕ). drop n ws) (sym (add-one i)) ∙ sym (drop-drop 1 i ws) ∙ ap (drop 1) e
@@ -137,13 +133,11 @@ behind-byte text k p x =
     let ps = placed text 0 (tokens text) in
     stood-place text (token-words text) (drop k ps) (p .at) (p .byte) (x .where-it-is) ∙ getD-from ps k (length text)
 
-pub new-behind : (text : List ℕ) (l : ℕ) → length text ≤ 32768 → Behind text 0 (new (input text (token-words text)) l)
+pub new-behind : (text : List ℕ) (l : ℕ) → length text < 65536 → Behind text 0 (new (input text (token-words text)) l)
 unfolding new
 new-behind text l h =
     let ws = token-words text in
-    record {
-      where-it-is = skip-stood text ws (placed text 0 (tokens text)) 0 0 ws refl (omega (arith, total-token-words text h)) (ap (placed text 0) (token-words-back text h));
-    }
+    record { where-it-is = skip-stood text ws (placed text 0 (tokens text)) 0 0 ws refl (omega (arith, total-token-words text h)) (ap (placed text 0) (token-words-back text h)) }
 
 pub next-behind : (text : List ℕ) (k : ℕ) (p q : Parser) → Behind text k p → q .at ≡ next (input text (token-words text)) p .at →
     q .byte ≡ next (input text (token-words text)) p .byte → Behind text (suc k) q
@@ -159,7 +153,7 @@ next-behind text k p q x e f =
     }
 
 -- A new parser has all of the text's symbols before it.
-pub new-rest : (text : List ℕ) (l : ℕ) → length text ≤ 32768 → rest (input text (token-words text)) (new (input text (token-words text)) l) ≡ symbols text
+pub new-rest : (text : List ℕ) (l : ℕ) → length text < 65536 → rest (input text (token-words text)) (new (input text (token-words text)) l) ≡ symbols text
 unfolding rest new symbols
 new-rest text l h =
     let p = new (input text (token-words text)) l in

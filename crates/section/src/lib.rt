@@ -1,52 +1,72 @@
 // The section call: tokens, section and the six refusals in one answer.
 
 use aadl::Answer;
+use aadl::Limits;
+use codec::class_in;
+use codec::kind_in;
+use lexer::BASE;
 use lexer::clear;
-use lexer::tokenize;
+use lexer::refuse;
+use lexer::tokenize_within;
 use parser::Parser;
 use parser::at;
 use parser::new;
+use parser::stop;
 use syntax_kind::PROPERTIES_KW;
+use syntax_kind::is_trivia;
 ghost use mathlib.Core.Path.{_≡_};
-ghost use Prim.Native.Nat.{_≤_};
-ghost use lib.ListN.{length, replicate};
-ghost use Rattle.aadl.specs.Limits.{base};
-ghost use Rattle.aadl.specs.Answers.{refused, section-answer, token-words, event-words, left-in};
-ghost use Rattle.aadl.specs.Demand.{Read-as-derived};
+ghost use Prim.Native.Nat.{_<_};
+ghost use lib.ListN.{length, take};
+ghost use Rattle.predictive.specs.Events.{erring, any-fault};
+ghost use Rattle.aadl.specs.Limits.{base, Allowed};
+ghost use Rattle.aadl.specs.Encoding.{events-in};
+ghost use Rattle.aadl.specs.Answers.{section-answer, token-words, event-words, left-in};
+ghost use Rattle.aadl.specs.Demand.{solid-words, is-clean, Read-as-derived};
 ghost use Rattle.section.specs.Replies.{Sectioned};
 
-// A refusal zeroes every lent word.
-fn refuse(tokens: &mut [u32], events: &mut [u32], number: u32, place: usize) -> Answer
-    ensures { λ r. ⌜ (r ≡ refused number place) × (now (tokens .exit) ≡ replicate (length (now (tokens .entry))) 0) × (now (events .exit) ≡ replicate (length (now (events .entry))) 0) ⌝ }
-{
-    clear(tokens);
-    clear(events);
-    Answer {
-        number,
-        place,
-        tokens: 0,
-        taken: 0,
-        events: 0,
-    }
-}
-
 // The section of a text whose token words are lent: the Rust panics where `properties` does not stand, here the parser stops with 4.
-fn read(text: &[u8], toks: &[u32], events: &mut [u32]) -> Parser
-    requires { ⌜ (length (now text) ≤ 32768) × (now toks ≡ token-words (now text)) ⌝ }
-    ensures { λ r. ⌜ Sectioned (now (text .entry)) (now (events .entry)) r (now (events .exit)) ⌝ }
+fn read(text: &[u8], toks: &[u32], events: &mut [u32], limits: Limits) -> Parser
+    requires { ⌜ (length (now text) < 65536) × (now toks ≡ token-words (now text)) ⌝ }
+    ensures { λ r. ⌜ Sectioned limits (now (text .entry)) (now (events .entry)) r (now (events .exit)) ⌝ }
 {
-    let p = new(text, toks, 64);
+    let p = new(text, toks, limits.openers);
     if !at(text, toks, p, PROPERTIES_KW) {
-        return Parser {
-            at: p.at,
-            byte: p.byte,
-            taken: p.taken,
-            used: p.used,
-            left: p.left,
-            stop: 4,
-        };
+        return stop(p, 4);
     }
     properties::property_section(text, toks, events, p)
+}
+
+// The section call within limits: the tokens of a text and the events of its section into lent words, or one of the refusals 1 to 6
+// with all words zeroed.
+pub fn property_section_within(
+    src: &[u8],
+    tokens: &mut [u32],
+    events: &mut [u32],
+    limits: Limits,
+) -> Answer
+    requires { ⌜ Allowed limits ⌝ }
+    ensures answered { λ r. ⌜ r ≡ section-answer limits (now (src .entry)) (length (now (tokens .entry))) (length (now (events .entry))) ⌝ }
+    ensures token_words { λ r. ⌜ now (tokens .exit) ≡ left-in (section-answer limits (now (src .entry)) (length (now (tokens .entry))) (length (now (events .entry)))) (token-words (now (src .entry))) (now (tokens .entry)) ⌝ }
+    ensures event_words { λ r. ⌜ now (events .exit) ≡ left-in (section-answer limits (now (src .entry)) (length (now (tokens .entry))) (length (now (events .entry)))) (event-words limits (now (src .entry))) (now (events .entry)) ⌝ }
+    ensures derived { λ r. ⌜ (r .number ≡ 0 → Read-as-derived (now (src .entry)) r (now (events .exit))) ⌝ }
+{
+    let a = tokenize_within(src, tokens, limits);
+    if a.number != 0 {
+        return refuse(events, a.number, a.place);
+    }
+    let count = a.tokens;
+    let p = read(src, &tokens[..count], events, limits);
+    if p.stop != 0 {
+        clear(events);
+        return refuse(tokens, p.stop as u32, p.byte);
+    }
+    Answer {
+        number: 0,
+        place: 0,
+        tokens: count,
+        taken: p.taken,
+        events: p.used,
+    }
 }
 
 // The section call: the tokens of a text and the events of its section into lent words, or one of the refusals 1 to 6 with all words
@@ -57,21 +77,49 @@ pub fn property_section(src: &[u8], tokens: &mut [u32], events: &mut [u32]) -> A
     ensures event_words { λ r. ⌜ now (events .exit) ≡ left-in (section-answer base (now (src .entry)) (length (now (tokens .entry))) (length (now (events .entry)))) (event-words base (now (src .entry))) (now (events .entry)) ⌝ }
     ensures derived { λ r. ⌜ (r .number ≡ 0 → Read-as-derived (now (src .entry)) r (now (events .exit))) ⌝ }
 {
-    let a = tokenize(src, tokens);
-    if a.number != 0 {
-        clear(events);
-        return a;
+    property_section_within(src, tokens, events, BASE)
+}
+
+// Whether an Error is among the events of the first words.
+fn any_error(events: &[u32], count: usize) -> bool
+    ensures { λ r. ⌜ r ≡ erring any-fault (events-in count (now (events .entry))) ⌝ }
+{
+    let mut i = 0;
+    while i < count {
+        if events.len() <= i {
+            return false;
+        }
+        if 3 <= class_in(events[i]) {
+            return true;
+        }
+        i += 1;
     }
-    let count = a.tokens;
-    let p = read(src, &tokens[..count], events);
-    if p.stop != 0 {
-        return refuse(tokens, events, p.stop as u32, p.byte);
+    false
+}
+
+// How many of the first words are no trivia's.
+fn solid_words(tokens: &[u32], count: usize) -> usize
+    ensures { λ r. ⌜ r ≡ solid-words (take count (now (tokens .entry))) ⌝ }
+{
+    let mut n = 0;
+    let mut i = 0;
+    while i < count {
+        if tokens.len() <= i {
+            return n;
+        }
+        if !is_trivia(kind_in(tokens[i])) {
+            n += 1;
+        }
+        i += 1;
     }
-    Answer {
-        number: 0,
-        place: 0,
-        tokens: count,
-        taken: p.taken,
-        events: p.used,
-    }
+    n
+}
+
+// Whether an answer of the section call, with the words that it left, is clean: not refused, no Error event, every non-trivia token taken.
+pub fn is_clean(a: Answer, tokens: &[u32], events: &[u32]) -> bool
+    ensures { λ r. ⌜ r ≡ is-clean a (now (tokens .entry)) (now (events .entry)) ⌝ }
+{
+    let erring = any_error(events, a.events);
+    let solid = solid_words(tokens, a.tokens);
+    (a.number == 0) & (!erring & (a.taken == solid))
 }

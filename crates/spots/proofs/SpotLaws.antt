@@ -15,17 +15,17 @@ use Rattle.writing.proofs.LeastLaws.{take-within}
 use Rattle.spots.specs.declared.Spot.{Spot}
 use Rattle.spots.specs.Spots.{capped, first, between, spot-after}
 
-pub line-after-append : (l : ℕ) (xs ys : List ℕ) → line-after l (xs ++ ys) ≡ line-after (line-after l xs) ys
+line-after-append : (l : ℕ) (xs ys : List ℕ) → line-after l (xs ++ ys) ≡ line-after (line-after l xs) ys
 line-after-append l [] ys = refl
 line-after-append l (x ∷ xs) ys = line-after-append (cond (eqb x 10) (suc l) l) xs ys
 
-pub column-after-append : (c : ℕ) (xs ys : List ℕ) → column-after c (xs ++ ys) ≡ column-after (column-after c xs) ys
+column-after-append : (c : ℕ) (xs ys : List ℕ) → column-after c (xs ++ ys) ≡ column-after (column-after c xs) ys
 column-after-append c [] ys = refl
 column-after-append c (x ∷ xs) ys = column-after-append (cond (eqb x 10) 1 (suc c)) xs ys
 
 -- A BOUND AND A CAP ----------------------------------------------------------------------------------------------------
 
-pub line-within : (l : ℕ) (bs : List ℕ) → line-after l bs ≤ l + length bs
+line-within : (l : ℕ) (bs : List ℕ) → line-after l bs ≤ l + length bs
 line-within l [] = omega arith
 line-within l (b ∷ bs) = go (eqb b 10) (line-within (cond (eqb b 10) (suc l) l) bs)
   where
@@ -33,7 +33,7 @@ line-within l (b ∷ bs) = go (eqb b 10) (line-within (cond (eqb b 10) (suc l) l
     go true h = omega arith
     go false h = omega arith
 
-pub column-within : (c : ℕ) (bs : List ℕ) → column-after c bs ≤ c + length bs
+column-within : (c : ℕ) (bs : List ℕ) → column-after c bs ≤ c + length bs
 column-within c [] = omega arith
 column-within c (b ∷ bs) = go (eqb b 10) (column-within (cond (eqb b 10) 1 (suc c)) bs)
   where
@@ -42,7 +42,7 @@ column-within c (b ∷ bs) = go (eqb b 10) (column-within (cond (eqb b 10) 1 (su
     go false h = omega arith
 
 -- what is past the cap does not show later
-pub line-capped : (l m : ℕ) (bs : List ℕ) → capped l ≡ capped m → capped (line-after l bs) ≡ capped (line-after m bs)
+line-capped : (l m : ℕ) (bs : List ℕ) → capped l ≡ capped m → capped (line-after l bs) ≡ capped (line-after m bs)
 line-capped l m [] e = e
 line-capped l m (b ∷ bs) e = line-capped (cond (eqb b 10) (suc l) l) (cond (eqb b 10) (suc m) m) bs (go (eqb b 10))
   where
@@ -50,7 +50,7 @@ line-capped l m (b ∷ bs) e = line-capped (cond (eqb b 10) (suc l) l) (cond (eq
     go true = omega arith
     go false = e
 
-pub column-capped : (c d : ℕ) (bs : List ℕ) → capped c ≡ capped d → capped (column-after c bs) ≡ capped (column-after d bs)
+column-capped : (c d : ℕ) (bs : List ℕ) → capped c ≡ capped d → capped (column-after c bs) ≡ capped (column-after d bs)
 column-capped c d [] e = e
 column-capped c d (b ∷ bs) e = column-capped (cond (eqb b 10) 1 (suc c)) (cond (eqb b 10) 1 (suc d)) bs (go (eqb b 10))
   where
@@ -60,17 +60,17 @@ column-capped c d (b ∷ bs) e = column-capped (cond (eqb b 10) 1 (suc c)) (cond
 
 -- BYTES BETWEEN PLACES -------------------------------------------------------------------------------------------------
 
-pub between-step : (text : List ℕ) (i j : ℕ) → i < j → j ≤ length text → between text i j ≡ getD text i 0 ∷ between text (i + 1) j
+between-step : (text : List ℕ) (i j : ℕ) → i < j → j ≤ length text → between text i j ≡ getD text i 0 ∷ between text (i + 1) j
 between-step text i j h l =
     let q : j - i ≡ suc (j - (i + 1)) = omega arith in
     rw (q, drop-cons text i 0 (omega arith), add-one i) refl
 
-pub between-none : (text : List ℕ) (i j : ℕ) → j ≤ i → between text i j ≡ []
+between-none : (text : List ℕ) (i j : ℕ) → j ≤ i → between text i j ≡ []
 between-none text i j h =
     let z : j - i ≡ 0 = omega arith in
     rw z refl
 
-pub between-append : (text : List ℕ) (i j k : ℕ) → i ≤ j → j ≤ k → between text i k ≡ between text i j ++ between text j k
+between-append : (text : List ℕ) (i j k : ℕ) → i ≤ j → j ≤ k → between text i k ≡ between text i j ++ between text j k
 between-append text i j k h g =
     let n : k - i ≡ (j - i) + (k - j) = omega arith in
     let m : i + (j - i) ≡ j = omega arith in
@@ -83,8 +83,8 @@ between-append text i j k h g =
 pub record Walking (text : List ℕ) (end from line₀ column₀ at line column : ℕ) : Type 0 where
   pub lines : capped (line-after line (between text at end)) ≡ capped (line-after line₀ (between text from end))
   pub columns : capped (column-after column (between text at end)) ≡ capped (column-after column₀ (between text from end))
-  pub line-small : line ≤ 4294967295
-  pub column-small : column ≤ 4294967295
+  line-small : line ≤ 4294967295
+  column-small : column ≤ 4294967295
   pub places : max at end ≡ max from end
 
 pub walking-starts : (text : List ℕ) (end from line column : ℕ) → line ≤ 4294967295 → column ≤ 4294967295 → Walking text end from line column from line column
@@ -161,8 +161,4 @@ spot-of text p h =
     let d : take (j - 0) text ≡ bs = ap (λ (k : ℕ). take k text) (sub-zero j) ∙ take-within p text in
     let l : capped (line-after 1 bs) ≡ line-after 1 bs = omega (arith, line-within 1 bs) in
     let c : capped (column-after 1 bs) ≡ column-after 1 bs = omega (arith, column-within 1 bs) in
-    λ t. record {
-      place = m t;
-      line = (ap (λ (xs : List ℕ). capped (line-after 1 xs)) d ∙ l) t;
-      column = (ap (λ (xs : List ℕ). capped (column-after 1 xs)) d ∙ c) t;
-    }
+    λ t. record { place = m t; line = (ap (λ (xs : List ℕ). capped (line-after 1 xs)) d ∙ l) t; column = (ap (λ (xs : List ℕ). capped (column-after 1 xs)) d ∙ c) t }

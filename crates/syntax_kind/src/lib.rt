@@ -1,15 +1,12 @@
-// Kinds of tokens and nodes by name, as `SyntaxKind` has them, and which kinds are of a class.
+// Kinds of tokens and nodes by name, as `SyntaxKind` has them: those that the code names. And which kinds are of a class.
 ghost use mathlib.Core.Path.{_≡_};
 ghost use Rattle.predictive.specs.Grammar.{has};
 ghost use Rattle.aadl.specs.Symbols.{is-trivia};
 ghost use Rattle.aadl.specs.Section.{keywords};
 ghost use Rattle.syntax_kind.specs.Categories.{categories};
+ghost use Rattle.syntax_kind.specs.Named.{named-kinds};
 
-// Tombstone, end, error
-
-pub const TOMBSTONE: u32 = 0;
-
-pub const EOF: u32 = 1;
+// No token of the language
 
 pub const ERROR: u32 = 2;
 
@@ -34,10 +31,6 @@ pub const DOT_DOT: u32 = 9;
 pub const L_PAREN: u32 = 10;
 
 pub const R_PAREN: u32 = 11;
-
-pub const L_CURLY: u32 = 12;
-
-pub const R_CURLY: u32 = 13;
 
 pub const L_BRACKET: u32 = 14;
 
@@ -65,8 +58,6 @@ pub const ANNEX_OPEN: u32 = 25;
 
 pub const ANNEX_CLOSE: u32 = 26;
 
-pub const HASH: u32 = 27;
-
 pub const DASH_BRACKET: u32 = 28;
 
 pub const BRACKET_ARROW: u32 = 29;
@@ -87,17 +78,7 @@ pub const IDENT: u32 = 33;
 
 pub const PACKAGE_KW: u32 = 34;
 
-pub const PUBLIC_KW: u32 = 35;
-
-pub const PRIVATE_KW: u32 = 36;
-
-pub const WITH_KW: u32 = 37;
-
-pub const END_KW: u32 = 38;
-
 pub const NONE_KW: u32 = 39;
-
-pub const RENAMES_KW: u32 = 40;
 
 // Component categories
 
@@ -127,29 +108,9 @@ pub const ABSTRACT_KW: u32 = 52;
 
 // Structure keywords
 
-pub const IMPLEMENTATION_KW: u32 = 53;
-
-pub const EXTENDS_KW: u32 = 54;
-
-pub const PROTOTYPES_KW: u32 = 55;
-
-pub const FEATURES_KW: u32 = 56;
-
-pub const FLOWS_KW: u32 = 57;
-
-pub const CONNECTIONS_KW: u32 = 58;
-
 pub const MODES_KW: u32 = 59;
 
 pub const PROPERTIES_KW: u32 = 60;
-
-pub const SUBCOMPONENTS_KW: u32 = 61;
-
-pub const ANNEX_KW: u32 = 62;
-
-pub const CALLS_KW: u32 = 63;
-
-pub const INTERNAL_KW: u32 = 64;
 
 // Feature keywords
 
@@ -169,30 +130,6 @@ pub const REQUIRES_KW: u32 = 71;
 
 pub const FEATURE_KW: u32 = 72;
 
-pub const PARAMETER_KW: u32 = 73;
-
-pub const INVERSE_KW: u32 = 74;
-
-pub const OF_KW: u32 = 75;
-
-// Flow keywords
-
-pub const FLOW_KW: u32 = 76;
-
-pub const SOURCE_KW: u32 = 77;
-
-pub const SINK_KW: u32 = 78;
-
-pub const PATH_KW: u32 = 79;
-
-// Mode keywords
-
-pub const INITIAL_KW: u32 = 80;
-
-pub const MODE_KW: u32 = 81;
-
-pub const TRANSITION_KW: u32 = 82;
-
 // Property keywords
 
 pub const CONSTANT_KW: u32 = 83;
@@ -201,13 +138,7 @@ pub const APPLIES_KW: u32 = 84;
 
 pub const TO_KW: u32 = 85;
 
-pub const INHERIT_KW: u32 = 86;
-
 pub const DELTA_KW: u32 = 87;
-
-pub const IS_KW: u32 = 88;
-
-pub const ALL_KW: u32 = 89;
 
 pub const BINDING_KW: u32 = 90;
 
@@ -215,31 +146,7 @@ pub const CLASSIFIER_KW: u32 = 91;
 
 pub const REFERENCE_KW: u32 = 92;
 
-pub const RECORD_KW: u32 = 93;
-
 pub const COMPUTE_KW: u32 = 94;
-
-pub const TYPE_KW: u32 = 95;
-
-pub const SET_KW: u32 = 96;
-
-pub const RANGE_KW: u32 = 97;
-
-pub const UNITS_KW: u32 = 98;
-
-pub const ENUMERATION_KW: u32 = 99;
-
-pub const LIST_KW: u32 = 100;
-
-pub const AADLBOOLEAN_KW: u32 = 101;
-
-pub const AADLINTEGER_KW: u32 = 102;
-
-pub const AADLREAL_KW: u32 = 103;
-
-pub const AADLSTRING_KW: u32 = 104;
-
-pub const PROPERTY_KW: u32 = 105;
 
 // Boolean keywords
 
@@ -251,19 +158,7 @@ pub const FALSE_KW: u32 = 107;
 
 pub const NOT_KW: u32 = 108;
 
-pub const AND_KW: u32 = 109;
-
-pub const OR_KW: u32 = 110;
-
-// Other keywords
-
-pub const REFINED_KW: u32 = 111;
-
-pub const SELF_KW: u32 = 112;
-
 // AADL v2.3 (AS5506D) keywords
-
-pub const INTERFACE_KW: u32 = 113;
 
 pub const FILE_KW: u32 = 114;
 
@@ -330,6 +225,108 @@ pub const COMPUTED_VALUE: u32 = 195;
 // Nodes: classifier references
 
 pub const CLASSIFIER_REF: u32 = 197;
+
+// The kinds named above; marks and keywords that aadl knows by their text alone come last.
+const NAMED: [u32; 91] = [
+    ERROR,
+    WHITESPACE,
+    COMMENT,
+    SEMICOLON,
+    COLON,
+    COMMA,
+    DOT,
+    DOT_DOT,
+    L_PAREN,
+    R_PAREN,
+    L_BRACKET,
+    R_BRACKET,
+    FAT_ARROW,
+    PLUS_ARROW,
+    PLUS,
+    MINUS,
+    STAR,
+    SLASH,
+    COLON_COLON,
+    INTEGER_LIT,
+    REAL_LIT,
+    STRING_LIT,
+    IDENT,
+    NONE_KW,
+    SYSTEM_KW,
+    PROCESS_KW,
+    THREAD_KW,
+    GROUP_KW,
+    PROCESSOR_KW,
+    VIRTUAL_KW,
+    BUS_KW,
+    MEMORY_KW,
+    DEVICE_KW,
+    SUBPROGRAM_KW,
+    DATA_KW,
+    ABSTRACT_KW,
+    MODES_KW,
+    PROPERTIES_KW,
+    IN_KW,
+    OUT_KW,
+    PORT_KW,
+    EVENT_KW,
+    ACCESS_KW,
+    PROVIDES_KW,
+    REQUIRES_KW,
+    FEATURE_KW,
+    CONSTANT_KW,
+    APPLIES_KW,
+    TO_KW,
+    DELTA_KW,
+    BINDING_KW,
+    CLASSIFIER_KW,
+    REFERENCE_KW,
+    COMPUTE_KW,
+    TRUE_KW,
+    FALSE_KW,
+    NOT_KW,
+    COMPONENT_CATEGORY,
+    PROTOTYPE_BINDING,
+    PROTOTYPE_BINDING_LIST,
+    DIRECTION,
+    PROPERTY_SECTION,
+    PROPERTY_ASSOCIATION,
+    PROPERTY_REF,
+    APPLIES_TO,
+    CONTAINMENT_PATH,
+    IN_BINDING,
+    MODAL_PROPERTY_VALUE,
+    PROPERTY_EXPRESSION,
+    BOOLEAN_VALUE,
+    INTEGER_VALUE,
+    REAL_VALUE,
+    STRING_VALUE,
+    RECORD_VALUE,
+    RECORD_FIELD,
+    LIST_VALUE,
+    RANGE_VALUE,
+    DELTA_VALUE,
+    BINARY_EXPR,
+    REFERENCE_VALUE,
+    CLASSIFIER_VALUE,
+    COMPUTED_VALUE,
+    CLASSIFIER_REF,
+    ARROW,
+    BIDI_ARROW,
+    ANNEX_OPEN,
+    ANNEX_CLOSE,
+    DASH_BRACKET,
+    BRACKET_ARROW,
+    PACKAGE_KW,
+    FILE_KW,
+];
+
+// Nothing calls this: its contract has every number above be the one that aadl gives the name.
+pub fn named_kinds() -> [u32; 91]
+    ensures { λ r. ⌜ r ≡ named-kinds ⌝ }
+{
+    NAMED
+}
 
 pub fn is_trivia(kind: u32) -> bool
     ensures { λ r. ⌜ r ≡ is-trivia kind ⌝ }

@@ -20,7 +20,7 @@ sets-out l i [] h = refl
 sets-out l i (v ∷ vs) h = ap (λ (k : List ℕ). sets k (suc i) vs) (set-out l i v h) ∙ sets-out l (suc i) vs (omega arith)
 
 -- so it does not matter how far behind it they would begin
-pub sets-from : (l : List ℕ) (i : ℕ) (vs : List ℕ) → sets l (min i (length l)) vs ≡ sets l i vs
+sets-from : (l : List ℕ) (i : ℕ) (vs : List ℕ) → sets l (min i (length l)) vs ≡ sets l i vs
 sets-from l i vs = at-least (λ (k : ℕ). sets l k vs) (length l) (λ k h. sets-out l k vs h ∙ sym (sets-out l (length l) vs (omega arith))) i
 
 -- BYTES AFTER BYTES ----------------------------------------------------------------------------------------------------

@@ -31,15 +31,4 @@ returns c =
     sym (any-end (sought (a .least) (a .most)) (a .s .now) (l .i) (l .found) (search needs)) ∙ l .inv
 
 pub any-between-spec : {M : Type 1} → statement M
-any-between-spec =
-    tie.close
-    (tie.spec
-    Inv-loop
-    μ-loop
-    (λ c. refl)
-    (λ c. search needs)
-    (λ c κs. tt)
-    (λ c. search needs)
-    (λ c. search needs)
-    loop-again
-    returns)
+any-between-spec = tie.close (tie.spec Inv-loop μ-loop (λ c. refl) (λ c. search needs) (λ c κs. tt) (λ c. search needs) (λ c. search needs) loop-again returns)

@@ -18,9 +18,4 @@ returns c =
     ∙ sym (fits-then (a .low to a .high ∷ a .least to a .most ∷ 0x80 to 0xBF ∷ []) 0x80 0xBF (omega arith) (a .s .now))
 
 pub fits-four-spec : {M : Type 1} → statement M
-fits-four-spec =
-    tie.close
-    (tie.spec
-    (λ c κs. tt)
-    (λ c κs. tt)
-    returns)
+fits-four-spec = tie.close (tie.spec (λ c κs. tt) (λ c κs. tt) returns)

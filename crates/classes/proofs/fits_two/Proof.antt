@@ -17,9 +17,4 @@ returns c =
     ∙ sym (fits-two (a .low) (a .high) (a .least) (a .most) (a .s .now))
 
 pub fits-two-spec : {M : Type 1} → statement M
-fits-two-spec =
-    tie.close
-    (tie.spec
-    (λ c κs. tt)
-    (λ c κs. tt)
-    returns)
+fits-two-spec = tie.close (tie.spec (λ c κs. tt) (λ c κs. tt) returns)

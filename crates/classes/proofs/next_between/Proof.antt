@@ -7,6 +7,7 @@ use lib.ListN.{length}
 use Rattle.aadl.specs.Bytes.{run-end}
 use Rattle.aadl.proofs.RunLaws.{run-more, run-stop, run-over}
 use Rattle.classes.specs.Search.{unsought}
+use Rattle.classes.proofs.Chunks.{chunks-inside}
 use borrow.Author.Needs.{needs}
 use Rattle.classes.proofs.next_between.Statement.{statement}
 use Rattle.classes.proofs.next_between.Tie as tie
@@ -21,6 +22,13 @@ returns : tie.Need-returns Inv-loop μ-loop
 returns c =
     let a = c .before .before .before .before .before .args in
     (sym (run-stop (unsought (a .least) (a .most)) (a .s .now) (a .from) (search needs) (ap not (sym (c .before .between .ensures) ∙ c .if2 .taken))), search needs)
+
+loop-holds : tie.Need-loop-holds Inv-loop μ-loop
+loop-holds c =
+    let a = c .before .before .before .args in
+    let h = c .skip-chunks .ensures in
+    let class = unsought (a .least) (a .most) in
+    (ap (run-end class (a .s .now)) (h .0) ∙ chunks-inside class (a .s .now) (a .from), h .1)
 
 returns-2 : tie.Need-returns-2 Inv-loop μ-loop
 returns-2 c =
@@ -43,18 +51,5 @@ returns-3 c =
 pub next-between-spec : {M : Type 1} → statement M
 next-between-spec =
     tie.close
-    (tie.spec
-    Inv-loop
-    μ-loop
-    (λ c. search needs)
-    (λ c κs. tt)
-    returns
-    (λ c κs. search needs)
-    (λ c. c .skip-chunks .ensures)
-    (λ c. search needs)
-    (λ c κs. tt)
-    returns-2
-    (λ c. search needs)
-    (λ c. search needs)
-    loop-again
-    returns-3)
+    (tie.spec Inv-loop μ-loop (λ c. search needs) (λ c κs. tt) returns (λ c κs. search needs) loop-holds (λ c. search needs) (λ c κs. tt) returns-2 (λ c. search needs) (λ c. search needs)
+    loop-again returns-3)

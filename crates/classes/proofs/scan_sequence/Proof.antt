@@ -52,18 +52,5 @@ none q3 n e =
 pub scan-sequence-spec : {M : Type 1} → statement M
 scan-sequence-spec =
     tie.close
-    (tie.spec
-    (λ c κs. tt)
-    returns
-    (λ c κs. tt)
-    returns-2
-    (λ c κs. tt)
-    (λ c κs. tt)
-    (λ c κs. tt)
-    (λ c κs. tt)
-    returns-3
-    (λ c κs. tt)
-    (λ c κs. tt)
-    (λ c κs. tt)
-    (λ c. none (c .before .before .before .before) 4 (rw (four (c .before) ∙ c .if4 .taken) refl))
-    (λ c. none (c .before .before .before .before) 0 (rw (four (c .before) ∙ c .if4 .left) refl)))
+    (tie.spec (λ c κs. tt) returns (λ c κs. tt) returns-2 (λ c κs. tt) (λ c κs. tt) (λ c κs. tt) (λ c κs. tt) returns-3 (λ c κs. tt) (λ c κs. tt) (λ c κs. tt)
+    (λ c. none (c .before .before .before .before) 4 (rw (four (c .before) ∙ c .if4 .taken) refl)) (λ c. none (c .before .before .before .before) 0 (rw (four (c .before) ∙ c .if4 .left) refl)))

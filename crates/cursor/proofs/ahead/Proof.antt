@@ -13,12 +13,4 @@ returns-3 : tie.Need-returns-3
 returns-3 c = sym (List·getD-eq-default (c .before .args .s .now) 0 (omega (arith, c .if1 .left)))
 
 pub ahead-spec : {M : Type 1} → statement M
-ahead-spec =
-    tie.close
-    (tie.spec
-    (λ c. search needs)
-    (λ c. search needs)
-    (λ c. search needs)
-    (λ c. search needs)
-    returns-2
-    returns-3)
+ahead-spec = tie.close (tie.spec (λ c. search needs) (λ c. search needs) (λ c. search needs) (λ c. search needs) returns-2 returns-3)

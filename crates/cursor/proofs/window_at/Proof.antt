@@ -204,7 +204,8 @@ module _ {M : Type 1} (𝓤 : URA M) (H : Heap 𝓤) (A : Atoms 𝓤) (mem : Mem
           reads ! fm Peek known-peek (to-peek u 2) κ q (seen .third) (peek-gave u 2) (and-then ! (load ! (from ! (stop !)) (look ! 3 refl)) (and-then ! (lit ! tt) (no-more !))) (λ c.
           land ! (from ! (stop !)) (init ! 5 refl (tt, record { fits = c })) $
           -- the window
-          assigns ! (agg ! (and-then ! (load ! (from ! (stop !)) (look ! 13 refl)) (and-then ! (load ! (from ! (stop !)) (look ! 9 refl)) (and-then ! (load ! (from ! (stop !)) (look ! 5 refl)) (no-more !)))))
+          assigns ! (agg ! (and-then ! (load ! (from ! (stop !)) (look ! 13 refl)) (and-then ! (load ! (from ! (stop !)) (look ! 9 refl)) (and-then ! (load ! (from ! (stop !)) (look ! 5 refl))
+          (no-more !)))))
           (from ! (stop !)) (init ! 21 refl (tt, (record { fits = a }, (record { fits = b }, (record { fits = c }, tt))))) $
           returns ! (look ! 21 refl) $ forget ! 3 refl $ forget ! 5 refl $ forget ! 7 refl $ forget ! 9 refl $ forget ! 11 refl $
           forget ! 13 refl $ forget ! 15 refl $ forget ! 17 refl $ forget ! 19 refl $ forget ! 21 refl $

@@ -43,5 +43,5 @@ returns-2 c =
 pub no-operand-spec : {M : Type 1} → statement M
 no-operand-spec =
     tie.close
-    (tie.spec (λ c κs. search needs) (λ c κs. search needs) (λ c κs. search needs) (λ c. read-long (returns c 0 .reads)) returns (λ c κs. search needs)
-    (λ c. read-long (returns-2 c 0 .reads)) returns-2)
+    (tie.spec (λ c κs. search needs) (λ c κs. search needs) (λ c κs. search needs) (λ c. read-long (returns c 0 .reads)) returns (λ c κs. search needs) (λ c. read-long (returns-2 c 0 .reads))
+    returns-2)

@@ -41,7 +41,7 @@ use Rattle.parser.proofs.bump_any.Reads as bump-any-reads
 use Rattle.parser.proofs.complete.Reads as complete-reads
 use Rattle.parser.proofs.expect.Reads as expect-reads
 use Rattle.parser.proofs.start.Reads as start-reads
-use Rattle.parser.proofs.too_deep.Reads as too-deep-reads
+use Rattle.parser.proofs.stop.Reads as stop-reads
 use Rattle.parser.proofs.with_left.Reads as with-left-reads
 use Rattle.grammar.proofs.+binding_items+classifier_ref+prototype_binding+prototype_binding_list+prototype_bindings.{statement}
 use Rattle.grammar.proofs.+binding_items+classifier_ref+prototype_binding+prototype_binding_list+prototype_bindings.Tie.{close}
@@ -111,13 +111,7 @@ binding-items-done t =
     let at-loop = at-bump .before .before .before .before in
     let at-prototype-binding = at-loop .before .before .before in
     let at-pre = at-prototype-binding .before .before .before .before .before .before .before in
-    omega (
-      arith,
-      at-pre .pre .0,
-      read-left (at-prototype-binding .prototype-binding .ensures),
-      at-loop .loop .inv .left,
-      read-left (at-bump .bump .ensures 0),
-    ))
+    omega (arith, at-pre .pre .0, read-left (at-prototype-binding .prototype-binding .ensures), at-loop .loop .inv .left, read-left (at-bump .bump .ensures 0)))
     (λ c.
     let at-prototype-binding2 = c .before .before in
     let at-bump = at-prototype-binding2 .before .before .before .before in
@@ -328,12 +322,7 @@ prototype-binding-list-done t =
     let at-bump = c .before .before .before in
     let at-start = at-bump .before .before .before .before in
     let at-pre = at-start .before .before .before .before .before in
-    omega (
-      arith,
-      at-pre .pre .0,
-      started-left (at-start .start .ensures),
-      read-left (at-bump .bump .ensures 0),
-    ))
+    omega (arith, at-pre .pre .0, started-left (at-start .start .ensures), read-left (at-bump .bump .ensures 0)))
     (λ c κs. search needs) (λ c κs. search needs)
     (λ c. read-long (prototype-binding-list-returns t c))
     (prototype-binding-list-returns t)
@@ -342,8 +331,8 @@ abbrev prototype-bindings-calls : ℕ → prototype-bindings-lts.Claims
 prototype-bindings-calls t = (
   at-reads.Asked,
   at-reads.Learnt,
-  too-deep-reads.Asked,
-  too-deep-reads.Learnt,
+  stop-reads.Asked,
+  stop-reads.Learnt,
   with-left-reads.Asked,
   with-left-reads.Learnt,
   below 4 prototype-binding-list.Pre t,
@@ -360,7 +349,7 @@ prototype-bindings-done t =
     let at-if2 = c .before in
     let at-if1 = at-if2 .before in
     let at-at = at-if1 .before in
-    r-opt-yes (sym (at-at .at .ensures) ∙ at-if1 .if1 .taken) (r-deep (at-if2 .if2 .taken) (c .too-deep .ensures _)))
+    r-opt-yes (sym (at-at .at .ensures) ∙ at-if1 .if1 .taken) (r-deep (at-if2 .if2 .taken) (c .stop .ensures _)))
     (λ c. search needs)
     (λ c κs. search needs)
     (λ c κs.

@@ -21,5 +21,4 @@ returns c =
 pub classifier-value-spec : {M : Type 1} → statement M
 classifier-value-spec =
     tie.close
-    (tie.spec (λ c κs. search needs) (λ c κs. search needs) (λ c κs. search needs) (λ c κs. search needs) (λ c κs. search needs)
-    (λ c κs. search needs) (λ c. read-long (returns c .reads)) returns)
+    (tie.spec (λ c κs. search needs) (λ c κs. search needs) (λ c κs. search needs) (λ c κs. search needs) (λ c κs. search needs) (λ c κs. search needs) (λ c. read-long (returns c .reads)) returns)

@@ -39,5 +39,5 @@ returns-3 c =
 pub mapping-spec : {M : Type 1} → statement M
 mapping-spec =
     tie.close
-    (tie.spec (λ c κs. search needs) (λ c κs. search needs) (λ c κs. search needs) (λ c κs. search needs) (λ c. read-long (returns c 0)) returns
-    (λ c. read-long (returns-2 c 0)) returns-2 returns-3)
+    (tie.spec (λ c κs. search needs) (λ c κs. search needs) (λ c κs. search needs) (λ c κs. search needs) (λ c. read-long (returns c 0)) returns (λ c. read-long (returns-2 c 0)) returns-2
+    returns-3)

@@ -66,5 +66,5 @@ returns-2 c =
 pub mode-items-spec : {M : Type 1} → statement M
 mode-items-spec =
     tie.close
-    (tie.spec Inv-loop μ-loop (λ c κs. search needs) (λ c κs. search needs) loop-holds (λ c κs. search needs) (λ c κs. search needs)
-    (λ c κs. search needs) loop-less loop-again (λ c. read-long (returns c 0)) returns returns-2)
+    (tie.spec Inv-loop μ-loop (λ c κs. search needs) (λ c κs. search needs) loop-holds (λ c κs. search needs) (λ c κs. search needs) (λ c κs. search needs) loop-less loop-again
+    (λ c. read-long (returns c 0)) returns returns-2)

@@ -78,13 +78,4 @@ returns-3 c =
 pub keyword-spec : {M : Type 1} → statement M
 keyword-spec =
     tie.close
-    (tie.spec
-    returns
-    hash-requires
-    (λ c. search needs)
-    (λ c κs. search needs)
-    is-word-in-requires
-    element-copy-out-wide32
-    (λ c κs. search needs)
-    returns-2
-    returns-3)
+    (tie.spec returns hash-requires (λ c. search needs) (λ c κs. search needs) is-word-in-requires element-copy-out-wide32 (λ c κs. search needs) returns-2 returns-3)

@@ -35,7 +35,10 @@ fits : (q : tie.After-scan-token Inv-loop μ-loop) → Fitting (q .before .befor
 fits q = token-fits (q .before .before .before .before .before .before .before .before .before .before .before .before .before .before .before .before .before .before .before .before .before .before .before .args .s .now) (q .before .before .before .before .before .before .before .before .before .before .loop .at) (q .scan-token .result) (search needs) (q .scan-token .ensures)
 
 loop-again : tie.Need-loop-again Inv-loop μ-loop
-loop-again c = filling-more (c .before .before .before .before .before .before .before .before .before .before .loop .inv) (c .scan-token .result) (search needs) (search needs) (c .scan-token .ensures)
+loop-again c =
+    let q = c .before in
+    rw (c .token-word .ensures) (filling-more (q .before .before .before .before .before .before .before .before .before .before .loop .inv) (q .scan-token .result) (search needs)
+    (omega (arith, q .before .before .before .before .before .before .before .before .before .before .loop .inv .room, q .before .before .before .before .before .before .before .before .before .before .loop .inv .same, q .before .before .before .before .before .before .before .before .if1 .left)) (q .scan-token .ensures))
 
 returns-2 : tie.Need-returns-2 Inv-loop μ-loop
 returns-2 c = filling-ends (c .before .loop .inv) (search needs)
@@ -43,25 +46,9 @@ returns-2 c = filling-ends (c .before .loop .inv) (search needs)
 pub fill-spec : {M : Type 1} → statement M
 fill-spec =
     tie.close
-    (tie.spec
-    Inv-loop
-    μ-loop
-    (λ c κs. tt)
-    (λ c κs. tt)
-    (λ c κs. tt)
-    (λ c κs. c .before .before .before .before .before .before .before .class-table .ensures)
-    (λ c. filling-starts _ _)
-    (λ c. c .before .before .loop .inv .same)
-    returns
-    scan-token-requires
-    (λ c. let t = fits c in omega arith)
-    (λ c. let t = fits c in omega arith)
-    (λ c. let t = fits c in omega arith)
-    (λ c. record { fits = omega (arith, c .before .before .before .before .before .before .before .before .before .before .loop .inv .room, c .before .before .before .before .before .before .before .before .before .before .before .before .before .before .before .before .before .before .before .before .before .before .before .good .1 .0) })
+    (tie.spec Inv-loop μ-loop (λ c κs. tt) (λ c κs. tt) (λ c κs. tt) (λ c κs. c .before .before .before .before .before .before .before .class-table .ensures) (λ c. filling-starts _ _)
+    (λ c. c .before .before .loop .inv .same) returns scan-token-requires (λ c κs. let t = fits c in (omega arith, omega arith))
+    (λ c. record { fits = omega (arith, c .before .before .before .before .before .before .before .before .before .before .before .loop .inv .room, c .before .before .before .before .before .before .before .before .before .before .before .before .before .before .before .before .before .before .before .before .before .before .before .before .good .1 .0) })
     (λ c. search needs)
-    (λ c. record { fits = omega (arith, c .before .before .before .before .before .before .before .before .before .before .loop .inv .room, c .before .before .before .before .before .before .before .before .before .before .before .before .before .before .before .before .before .before .before .before .before .before .before .good .1 .0) })
-    (λ c. let t = fits c in omega arith)
-    (λ c. let t = fits c in omega arith)
-    loop-again
-    (λ c. c .before .loop .inv .same)
-    returns-2)
+    (λ c. record { fits = omega (arith, c .before .before .before .before .before .before .before .before .before .before .before .loop .inv .room, c .before .before .before .before .before .before .before .before .before .before .before .before .before .before .before .before .before .before .before .before .before .before .before .before .good .1 .0) })
+    (λ c. let t = fits (c .before) in omega arith) (λ c. let t = fits (c .before) in omega arith) loop-again (λ c. c .before .loop .inv .same) returns-2)

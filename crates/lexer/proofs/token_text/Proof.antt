@@ -16,15 +16,15 @@ returns c =
 
 returns-2 : tie.Need-returns-2
 returns-2 c =
-    let a = c .before .before .before .before .before .before .before .before .args in
+    let a = c .before .before .before .before .before .before .before .before .before .args in
     sym (text-past (a .src .now) (a .words .now) (a .number) (search needs) (omega arith))
 
 returns-3 : tie.Need-returns-3
 returns-3 c =
-    let a = c .before .before .before .before .before .before .before .before .args in
+    let a = c .before .before .before .before .before .before .before .before .before .args in
     let xs = a .src .now in
     let ws = a .words .now in
-    let f = c .before .before .before .before .token-start .result in
+    let f = c .before .before .before .before .before .token-start .result in
     let e = c .before .before .add-capped .result in
     let p : f ≡ total (take (a .number) ws) = omega arith in
     let q : e - f ≡ getD ws (a .number) 0 % 65536 = omega arith in
@@ -33,18 +33,5 @@ returns-3 c =
 pub token-text-spec : {M : Type 1} → statement M
 token-text-spec =
     tie.close
-    (tie.spec
-    (λ c. search needs)
-    returns
-    (λ c. search needs)
-    (λ c κs. search needs)
-    (λ c. search needs)
-    (λ c. search needs)
-    (λ c. search needs)
-    (λ c κs. search needs)
-    (λ c. search needs)
-    returns-2
-    (λ c. search needs)
-    (λ c. search needs)
-    (λ c. search needs)
-    returns-3)
+    (tie.spec (λ c. search needs) returns (λ c. search needs) (λ c κs. search needs) (λ c. search needs) (λ c. search needs) (λ c κs. search needs) (λ c κs. search needs) (λ c. search needs)
+    returns-2 (λ c. search needs) (λ c. search needs) (λ c. search needs) returns-3)

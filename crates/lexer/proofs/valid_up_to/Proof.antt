@@ -72,17 +72,5 @@ returns-3 c =
 pub valid-up-to-spec : {M : Type 1} → statement M
 valid-up-to-spec =
     tie.close
-    (tie.spec
-    Inv-loop
-    μ-loop
-    (λ c κs. search needs)
-    returns
-    (λ c κs. search needs)
-    loop-holds
-    (λ c κs. search needs)
-    returns-2
-    (λ c. omega (arith, within (c .before)))
-    (λ c κs. within (c .before))
-    loop-less
-    loop-again
-    returns-3)
+    (tie.spec Inv-loop μ-loop (λ c κs. search needs) returns (λ c κs. search needs) loop-holds (λ c κs. search needs) returns-2 (λ c. omega (arith, within (c .before)))
+    (λ c κs. within (c .before)) loop-less loop-again returns-3)

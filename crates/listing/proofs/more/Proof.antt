@@ -5,7 +5,7 @@ use lib.ListN.{drop}
 use lib.Seq.{length-take-le}
 use Rattle.writing.proofs.LeastLaws.{take-least}
 use Rattle.parser.specs.Input.{input}
-use Rattle.listing.specs.Cursors.{lines-from}
+use Rattle.listing.specs.Positions.{lines-from}
 use Rattle.listing.specs.Pieces.{left}
 use Rattle.listing.proofs.PieceLaws.{gave-same}
 use borrow.Author.Needs.{needs}
@@ -47,19 +47,10 @@ returns c =
     let w = take-least _ _ _ (x .events .now) (at-least3 .least3 .ensures) (at-events .events .given .0) in
     let r = at-lines .put-lines .result in
     gave-same (at-lines .put-lines .ensures)
-    (λ i. lines-from (input (s i) (t i)) (l .event) (drop (l .event) (w i)) (l .cursor))
-    (λ i. lines-from (input (s i) (t i)) (r .event) (drop (r .event) (w i)) (r .cursor))
+    (λ i. lines-from (input (s i) (t i)) (l .event) (drop (l .event) (w i)) (l .position))
+    (λ i. lines-from (input (s i) (t i)) (r .event) (drop (r .event) (w i)) (r .position))
 
 pub more-spec : {M : Type 1} → statement M
 more-spec =
     tie.close
-    (tie.spec
-    (λ c κs. search needs)
-    (λ c κs. search needs)
-    (λ c κs. search needs)
-    count-src
-    count-toks
-    count-words
-    (λ c κs. search needs)
-    (λ c. search needs)
-    returns)
+    (tie.spec (λ c κs. search needs) (λ c κs. search needs) (λ c κs. search needs) count-src count-toks count-words (λ c κs. search needs) (λ c. search needs) returns)

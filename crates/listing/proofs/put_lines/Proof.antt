@@ -8,7 +8,7 @@ use lib.ListN.{length, drop, getD}
 use borrow.Author.Tests.{leb-true, leb-false}
 use Rattle.parser.specs.Input.{input}
 use Rattle.lines.specs.Lines.{line-room, line-of}
-use Rattle.listing.specs.Cursors.{lines-from}
+use Rattle.listing.specs.Positions.{lines-from}
 use Rattle.listing.proofs.PieceLaws.{Filling, filling-starts, filling-more, filling-full, filling-whole, lines-more, lines-none}
 use borrow.Author.Needs.{needs}
 use Rattle.listing.proofs.put_lines.Statement.{statement}
@@ -40,7 +40,7 @@ loop-again c =
     let inp = input (a .src .now) (a .toks .now) in
     let ws = a .words .now in
     let one = sym (add-one (l .i)) in
-    let next = sym (c .next-cursor .ensures) in
+    let next = sym (c .next-position .ensures) in
     let line = line-of (l .i) (getD ws (l .i) 0) (l .c .spot .line) (l .c .spot .column) in
     let split = lines-more inp (l .i) ws (l .c) (search needs) ∙ (λ t. line ∷ lines-from inp (one t) (drop (one t) ws) (next t)) in
     filling-more (l .inv) line _ split (omega (arith, l .inv .long, leb-true line-room (length (l .out) - l .at) (at-if1 .if1 .taken))) (put .put-line .ensures .1) (put .put-line .ensures .0)
@@ -65,19 +65,5 @@ returns-2 c =
 pub put-lines-spec : {M : Type 1} → statement M
 put-lines-spec =
     tie.close
-    (tie.spec
-    Inv-loop
-    μ-loop
-    loop-holds
-    sub-if1
-    (λ c. search needs)
-    (λ c. search needs)
-    (λ c κs. search needs)
-    (λ c κs. search needs)
-    (λ c. search needs)
-    (λ c. search needs)
-    loop-again
-    same-length
-    returns
-    same-length-2
-    returns-2)
+    (tie.spec Inv-loop μ-loop loop-holds sub-if1 (λ c. search needs) (λ c. search needs) (λ c κs. search needs) (λ c κs. search needs) (λ c. search needs) (λ c. search needs) loop-again
+    same-length returns same-length-2 returns-2)

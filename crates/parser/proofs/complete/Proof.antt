@@ -1,14 +1,9 @@
--- The Start is stored where there is such a word, then Finish is pushed (Marks). Assumes nothing.
-use Prim.Native.Nat.{ℕ, _*_}
-use native.Mathlib.Omega.{arith}
-use mathlib.Core.Path.{_≡_, refl, sym, ap, _∙_}
-use mathlib.Core.Logic.{⊎-elim}
+-- The Start gets its kind, then Finish is pushed (Marks). Assumes nothing.
+use Prim.Native.Nat.{ℕ}
+use mathlib.Core.Path.{refl, sym, ap, _∙_}
 use mathlib.Core.List.{List}
-use lib.ListN.{length, set, length-set}
-use lib.Seq.{set-out}
 use borrow.Author.Needs.{needs}
-use Rattle.predictive.specs.Events.{start}
-use Rattle.aadl.specs.Reading.{event-word}
+use Rattle.predictive.specs.Events.{finish}
 use Rattle.parser.specs.State.{state, push}
 use Rattle.parser.proofs.Marks.{complete-stopped, complete-goes}
 use Rattle.parser.proofs.complete.Statement.{statement}
@@ -17,33 +12,18 @@ use Rattle.parser.proofs.complete.Tie as tie
 returns : tie.Need-returns
 returns c = record { ran = sym (complete-stopped _ _ _ (c .if1 .taken)); mark = refl }
 
-same-length : tie.Need-same-length
-same-length c =
-    let a = c .before .before .before .before .before .before .before .before .args in
-    let stores = c .before .before .before .before .if2 .came in
-    c .before .before .push-event .kept .0
-    ∙ ⊎-elim (λ w. ap length (w .1) ∙ length-set (a .events .now) (a .m .0) (a .kind * 65536)) (λ w. ap length (w .1)) stores
-
 returns-2 : tie.Need-returns-2
-unfolding event-word
 returns-2 c =
-    let a = c .before .before .before .before .before .before .before .before .args in
-    let b = a .events .now in
-    let stores = c .before .before .before .before .if2 in
-    let e : a .kind * 65536 ≡ event-word (start (a .kind) 0) = omega arith in
-    let stored : stores .events ≡ set b (a .m .0) (a .kind * 65536) =
-    ⊎-elim (λ w. w .1) (λ w. w .1 ∙ sym (set-out b (a .m .0) (a .kind * 65536) (w .0 .left))) (stores .came) in
-    let pushes = c .before .before .push-event .ensures .ran ∙ ap (λ (ws : List ℕ). push 33554432 (state (a .p) ws)) (stored ∙ ap (set b (a .m .0)) e) in
-    record { ran = pushes ∙ sym (complete-goes _ _ _ (c .before .before .before .before .before .if1 .left)); mark = refl }
+    let at-name-start = c .before .before .before .before .before .before .before in
+    let at-if1 = at-name-start .before .before in
+    let p = at-if1 .before .before .before .args .p in
+    let pushes = c .before .before .push-event .ensures finish (c .before .before .before .finish-event .ensures) in
+    record {
+      ran =
+          pushes .ran ∙ ap (λ (ws : List ℕ). push finish (state p ws)) (at-name-start .name-start .ensures)
+          ∙ sym (complete-goes _ _ _ (at-if1 .if1 .left));
+      mark = refl;
+    }
 
 pub complete-spec : {M : Type 1} → statement M
-complete-spec =
-    tie.close
-    (tie.spec
-    returns
-    (λ c. search needs)
-    (λ c. search needs)
-    (λ c. search needs)
-    (λ c κs. search needs)
-    same-length
-    returns-2)
+complete-spec = tie.close (tie.spec returns (λ c κs. search needs) (λ c κs. search needs) (λ c κs. search needs) (λ c. search needs) returns-2)

@@ -51,14 +51,4 @@ returns-2 c =
 pub nth-spec : {M : Type 1} → statement M
 nth-spec =
     tie.close
-    (tie.spec
-    Inv-loop
-    μ-loop
-    returns
-    loop-holds
-    (λ c κs. search needs)
-    (λ c. search needs)
-    (λ c. search needs)
-    loop-again
-    (λ c κs. search needs)
-    returns-2)
+    (tie.spec Inv-loop μ-loop returns loop-holds (λ c κs. search needs) (λ c. search needs) (λ c. search needs) loop-again (λ c κs. search needs) returns-2)

@@ -1,4 +1,4 @@
--- Each `return` is a case of `pass` (Pushing), with what is counted at most 32,768. Assumes nothing.
+-- Each `return` is a case of `pass` (Pushing), with what is counted at most the most events. Assumes nothing.
 use Prim.Native.Nat.{ℕ}
 use native.Mathlib.Omega.{arith}
 use mathlib.Core.Path.{_≡_, sym, _∙_}
@@ -7,17 +7,14 @@ use borrow.Author.Needs.{needs}
 use Rattle.parser.specs.declared.Parser.{Parser}
 use Rattle.parser.specs.declared.Place.{Place}
 use Rattle.parser.specs.Input.{Input, input, next}
-use Rattle.parser.specs.State.{State, state, counted, pass}
+use Rattle.parser.specs.State.{state, one-more, moved-on, pass}
 use Rattle.parser.proofs.Pushing.{pass-stopped, pass-goes}
 use Rattle.parser.proofs.pass.Statement.{statement}
 use Rattle.parser.proofs.pass.Tie as tie
 
-abbrev moved : Place → (taken : ℕ) → Parser → List ℕ → State
-moved s n p b = record { parser = record { at = s .at; byte = s .byte; taken = n; used = p .used; left = p .left; stop = p .stop }; words = b }
-
-moves : (inp : Input) (p : Parser) (b : List ℕ) {s : Place} {n : ℕ} → p .stop ≡ 0 → s ≡ next inp p → n ≡ counted (p .taken) →
-    moved s n p b ≡ pass inp (state p b)
-moves inp p b g e f = (λ i. moved (e i) (f i) p b) ∙ sym (pass-goes inp (state p b) g)
+moves : (inp : Input) (p : Parser) (b : List ℕ) {s : Place} {n : ℕ} → p .stop ≡ 0 → s ≡ next inp p → n ≡ one-more (p .taken) →
+    state (moved-on s n p) b ≡ pass inp (state p b)
+moves inp p b g e f = (λ i. state (moved-on (e i) (f i) p) b) ∙ sym (pass-goes inp (state p b) g)
 
 returns : tie.Need-returns
 returns c = λ b. record { ran = sym (pass-stopped _ _ (c .if1 .taken)) }

@@ -1,29 +1,39 @@
--- Each `return` is a case of `push` (Pushing). Assumes nothing.
-use mathlib.Core.Path.{sym}
+-- Each `return` is a case of `push` (Pushing), for every event that the word is the word of (Buffer). Assumes nothing.
 use native.Mathlib.Omega.{arith}
+use mathlib.Core.Path.{sym, ap₂, _∙_}
 use borrow.Author.Needs.{needs}
-use Rattle.parser.proofs.Pushing.{push-stopped, push-fits, push-full}
+use Rattle.parser.specs.State.{state}
+use Rattle.parser.proofs.Buffer.{room-within, put-word}
+use Rattle.parser.proofs.Pushing.{push-stopped, push-fits, push-full, halt-goes}
 use Rattle.parser.proofs.push_event.Statement.{statement}
 use Rattle.parser.proofs.push_event.Tie as tie
 
 returns : tie.Need-returns
-returns c = record { ran = sym (push-stopped _ _ (c .if1 .taken)) }
+returns c = λ e w. record { ran = sym (push-stopped e _ (c .if1 .taken)) }
+
+offset-fits : tie.Need-mul-events
+offset-fits c =
+    let at-args = c .before .before .before .before .before .before in
+    omega (arith, at-args .good .0 .0, c .if2 .taken, c .before .room .ensures, room-within (at-args .args .events .now))
+
+in-words : tie.Need-slice-write-events
+in-words c = omega (arith, c .if2 .taken, c .before .room .ensures, room-within (c .before .before .before .before .before .before .args .events .now))
 
 returns-2 : tie.Need-returns-2
-returns-2 c = record { ran = sym (push-fits _ _ (c .before .before .if1 .left) (omega (arith, c .before .room .ensures, c .if2 .taken))) }
+returns-2 c = λ e w.
+    let p = c .before .before .before .before .before .before .before .args .p in
+    record {
+      ran =
+          ap₂ state (c .with-used .ensures) (put-word p e _ _ w)
+          ∙ sym (push-fits e _ (c .before .before .before .before .if1 .left) (omega (arith, c .before .before .room .ensures, c .before .if2 .taken)));
+    }
 
 returns-3 : tie.Need-returns-3
-returns-3 c = record { ran = sym (push-full _ _ (c .before .before .if1 .left) (omega (arith, c .before .room .ensures, c .if2 .left))) }
+returns-3 c = λ e w.
+    let goes = c .before .before .before .before .if1 .left in
+    record { ran = c .stop .ensures _ .ran ∙ halt-goes 5 _ goes ∙ sym (push-full e _ goes (omega (arith, c .before .before .room .ensures, c .before .if2 .left))) }
 
 pub push-event-spec : {M : Type 1} → statement M
 push-event-spec =
     tie.close
-    (tie.spec
-    returns
-    (λ c κs. search needs)
-    (λ c. search needs)
-    (λ c. search needs)
-    (λ c. search needs)
-    (λ c. search needs)
-    returns-2
-    returns-3)
+    (tie.spec returns (λ c κs. search needs) offset-fits in-words (λ c. search needs) (λ c κs. search needs) (λ c. search needs) returns-2 (λ c κs. search needs) (λ c. search needs) returns-3)

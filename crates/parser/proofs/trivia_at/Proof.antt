@@ -17,12 +17,4 @@ returns-2 c =
     sym (trivia-ends (a .toks .now) (a .toks .now) (a .at) 0 (search needs))
 
 pub trivia-at-spec : {M : Type 1} → statement M
-trivia-at-spec =
-    tie.close
-    (tie.spec
-    (λ c. search needs)
-    (λ c. search needs)
-    (λ c κs. search needs)
-    (λ c κs. search needs)
-    returns
-    returns-2)
+trivia-at-spec = tie.close (tie.spec (λ c. search needs) (λ c. search needs) (λ c κs. search needs) (λ c κs. search needs) returns returns-2)

@@ -30,5 +30,5 @@ returns-2 c =
 pub applies-to-spec : {M : Type 1} → statement M
 applies-to-spec =
     tie.close
-    (tie.spec (λ c κs. search needs) (λ c κs. search needs) (λ c κs. search needs) (λ c κs. search needs) (λ c κs. search needs) (λ c κs. search needs)
-    (λ c. read-long (returns c 0)) returns returns-2)
+    (tie.spec (λ c κs. search needs) (λ c κs. search needs) (λ c κs. search needs) (λ c κs. search needs) (λ c κs. search needs) (λ c κs. search needs) (λ c. read-long (returns c 0)) returns
+    returns-2)

@@ -34,5 +34,4 @@ returns-2 c =
 pub arrow-spec : {M : Type 1} → statement M
 arrow-spec =
     tie.close
-    (tie.spec (λ c κs. search needs) (λ c κs. search needs) (λ c. read-long (returns c 0)) returns (λ c κs. search needs)
-    (λ c. read-long (returns-2 c 0)) returns-2)
+    (tie.spec (λ c κs. search needs) (λ c κs. search needs) (λ c. read-long (returns c 0)) returns (λ c κs. search needs) (λ c. read-long (returns-2 c 0)) returns-2)

@@ -55,5 +55,4 @@ loop-again c =
 pub paths-spec : {M : Type 1} → statement M
 paths-spec =
     tie.close
-    (tie.spec Inv-loop μ-loop loop-holds (λ c κs. search needs) (λ c κs. search needs) (λ c. read-long (returns c 0)) returns (λ c κs. search needs) loop-less
-    loop-again)
+    (tie.spec Inv-loop μ-loop loop-holds (λ c κs. search needs) (λ c κs. search needs) (λ c. read-long (returns c 0)) returns (λ c κs. search needs) loop-less loop-again)

@@ -27,5 +27,4 @@ returns-2 c =
 pub property-name-spec : {M : Type 1} → statement M
 property-name-spec =
     tie.close
-    (tie.spec (λ c κs. search needs) (λ c κs. search needs) (λ c. read-long (returns c 0)) returns (λ c κs. search needs) (λ c κs. search needs)
-    (λ c. read-long (returns-2 c 0)) returns-2)
+    (tie.spec (λ c κs. search needs) (λ c κs. search needs) (λ c. read-long (returns c 0)) returns (λ c κs. search needs) (λ c κs. search needs) (λ c. read-long (returns-2 c 0)) returns-2)

@@ -75,6 +75,5 @@ returns-2 c =
 pub property-section-spec : {M : Type 1} → statement M
 property-section-spec =
     tie.close
-    (tie.spec Inv-loop μ-loop (λ c κs. search needs) (λ c κs. search needs) (λ c κs. search needs) (λ c κs. search needs) (λ c κs. search needs)
-    (λ c κs. search needs) (λ c. read-long (returns c)) returns loop-holds (λ c κs. search needs) (λ c κs. search needs) loop-less loop-again
-    (λ c κs. search needs) (λ c. read-long (returns-2 c)) returns-2)
+    (tie.spec Inv-loop μ-loop (λ c κs. search needs) (λ c κs. search needs) (λ c κs. search needs) (λ c κs. search needs) (λ c κs. search needs) (λ c κs. search needs) (λ c. read-long (returns c))
+    returns loop-holds (λ c κs. search needs) (λ c κs. search needs) loop-less loop-again (λ c κs. search needs) (λ c. read-long (returns-2 c)) returns-2)

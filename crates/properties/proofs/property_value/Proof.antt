@@ -30,5 +30,5 @@ returns-2 c =
 pub property-value-spec : {M : Type 1} → statement M
 property-value-spec =
     tie.close
-    (tie.spec (λ c κs. search needs) (λ c κs. search needs) (λ c κs. search needs) (λ c κs. search needs) (λ c κs. search needs)
-    (λ c. read-long (returns c)) returns (λ c. read-long (returns-2 c)) returns-2)
+    (tie.spec (λ c κs. search needs) (λ c κs. search needs) (λ c κs. search needs) (λ c κs. search needs) (λ c κs. search needs) (λ c. read-long (returns c)) returns (λ c. read-long (returns-2 c))
+    returns-2)

@@ -52,5 +52,4 @@ loop-again c =
 pub property-values-spec : {M : Type 1} → statement M
 property-values-spec =
     tie.close
-    (tie.spec Inv-loop μ-loop loop-holds (λ c κs. search needs) (λ c κs. search needs) (λ c. read-long (returns c)) returns (λ c κs. search needs) loop-less
-    loop-again)
+    (tie.spec Inv-loop μ-loop loop-holds (λ c κs. search needs) (λ c κs. search needs) (λ c. read-long (returns c)) returns (λ c κs. search needs) loop-less loop-again)

@@ -39,15 +39,7 @@ pub exponent-spec : {M : Type 1} → statement M
 unfolding member
 exponent-spec =
     tie.close
-    (tie.spec
-    (λ c κs. search needs)
-    (λ c κs. search needs)
-    (λ c. let a = c .before .before .before .before .args in omega (arith, inside is-exponent refl (a .s .now) (a .i) (letter c)))
-    (λ c κs. search needs)
-    (λ c. let a = c .before .before .before .before .before .before .args in omega (arith, inside is-sign refl (a .s .now) (a .i + 1) (sign (c .before) ∙ c .if2 .taken)))
-    (λ c κs. search needs)
-    returns
-    (λ c. let a = c .before .before .before .before .before .before .args in omega (arith, inside is-exponent refl (a .s .now) (a .i) (letter (c .before .before))))
-    (λ c κs. search needs)
-    returns-2
-    returns-3)
+    (tie.spec (λ c κs. search needs) (λ c κs. search needs) (λ c. let a = c .before .before .before .before .args in omega (arith, inside is-exponent refl (a .s .now) (a .i) (letter c)))
+    (λ c κs. search needs) (λ c. let a = c .before .before .before .before .before .before .args in omega (arith, inside is-sign refl (a .s .now) (a .i + 1) (sign (c .before) ∙ c .if2 .taken)))
+    (λ c κs. search needs) returns (λ c. let a = c .before .before .before .before .before .before .args in omega (arith, inside is-exponent refl (a .s .now) (a .i) (letter (c .before .before))))
+    (λ c κs. search needs) returns-2 returns-3)

@@ -25,12 +25,4 @@ returns-3 c =
     c .token2 .ensures ∙ no-mark-stands (drop (q .args .at) (q .args .s .now)) (q .args .mark) (q .pre .1) (c .before .before .before .if1 .left) (n .result) (omega (arith, n .ensures, c .before .if2 .left))
 
 pub mark-or-error-spec : {M : Type 1} → statement M
-mark-or-error-spec =
-    tie.close
-    (tie.spec
-    returns
-    (λ c κs. search needs)
-    (λ c κs. search needs)
-    returns-2
-    (λ c κs. search needs)
-    returns-3)
+mark-or-error-spec = tie.close (tie.spec returns (λ c κs. search needs) (λ c κs. search needs) returns-2 (λ c κs. search needs) returns-3)

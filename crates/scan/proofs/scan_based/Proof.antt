@@ -49,18 +49,6 @@ from q = let a = q .before .before .args in omega (arith, q .run-end .ensures .0
 pub scan-based-spec : {M : Type 1} → statement M
 scan-based-spec =
     tie.close
-    (tie.spec
-    (λ c κs. search needs)
-    (λ c κs. search needs)
-    (λ c. search needs)
-    (λ c κs. search needs)
-    (λ c. from (c .before .before .before))
-    (λ c. omega (arith, from (c .before .before .before)))
-    (λ c. search needs)
-    (λ c κs. search needs)
-    (λ c κs. search needs)
-    (λ c κs. search needs)
-    (λ c κs. search needs)
-    (λ c. c .token .ensures ∙ kept (c .before .before) true (c .before .if2 .taken))
-    (λ c κs. search needs)
-    (λ c. c .token2 .ensures ∙ kept (c .before .before) false (c .before .if2 .left)))
+    (tie.spec (λ c κs. search needs) (λ c κs. search needs) (λ c. search needs) (λ c κs. search needs) (λ c. from (c .before .before .before))
+    (λ c. omega (arith, from (c .before .before .before))) (λ c. search needs) (λ c κs. search needs) (λ c κs. search needs) (λ c κs. search needs) (λ c κs. search needs)
+    (λ c. c .token .ensures ∙ kept (c .before .before) true (c .before .if2 .taken)) (λ c κs. search needs) (λ c. c .token2 .ensures ∙ kept (c .before .before) false (c .before .if2 .left)))

@@ -18,13 +18,7 @@ returns c =
 pub scan-ident-or-keyword-spec : {M : Type 1} → statement M
 scan-ident-or-keyword-spec =
     tie.close
-    (tie.spec
-    (λ c. search needs)
-    (λ c κs. search needs)
-    (λ c. let a = c .before .before .args in omega (arith, c .word-end .ensures .0, run-end-from is-ident-continue (a .s .now) (a .at + 1)))
-    (λ c. let a = c .before .before .args in omega (arith, c .word-end .ensures .0, run-end-from is-ident-continue (a .s .now) (a .at + 1)))
-    (λ c. search needs)
-    (λ c κs. search needs)
-    (λ c. let a = c .before .before .before .before .args in omega (arith, c .before .before .word-end .ensures .0, run-end-from is-ident-continue (a .s .now) (a .at + 1)))
-    (λ c κs. search needs)
+    (tie.spec (λ c. search needs) (λ c κs. search needs) (λ c. let a = c .before .before .args in omega (arith, c .word-end .ensures .0, run-end-from is-ident-continue (a .s .now) (a .at + 1)))
+    (λ c. let a = c .before .before .args in omega (arith, c .word-end .ensures .0, run-end-from is-ident-continue (a .s .now) (a .at + 1))) (λ c. search needs) (λ c κs. search needs)
+    (λ c. let a = c .before .before .before .before .args in omega (arith, c .before .before .word-end .ensures .0, run-end-from is-ident-continue (a .s .now) (a .at + 1))) (λ c κs. search needs)
     returns)

@@ -63,14 +63,4 @@ returns-3 c =
 pub scan-mark-spec : {M : Type 1} → statement M
 scan-mark-spec =
     tie.close
-    (tie.spec
-    (λ c κs. search needs)
-    (λ c κs. search needs)
-    (λ c κs. search needs)
-    alone
-    returns
-    comment
-    (λ c. c .scan-comment .ensures)
-    longer
-    longest-stands
-    returns-3)
+    (tie.spec (λ c κs. search needs) (λ c κs. search needs) (λ c κs. search needs) alone returns comment (λ c. c .scan-comment .ensures) longer longest-stands returns-3)

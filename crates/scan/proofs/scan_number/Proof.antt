@@ -10,8 +10,8 @@ use lib.Dec.{eqb}
 use borrow.Author.Tests.{eq-eqb, ne-eqb}
 use Rattle.predictive.proofs.Tests.{and-l}
 use Rattle.aadl.specs.declared.Token.{Token}
-use Rattle.aadl.specs.Bytes.{is-digit, is-ident-continue, is-grouped, run-end}
-use Rattle.aadl.specs.Tokens.{token, exponent-end, radix-digit, number-from, number-of, token-of}
+use Rattle.aadl.specs.Bytes.{is-digit, is-ident-continue, is-grouped}
+use Rattle.aadl.specs.Tokens.{exponent-end, radix-digit, number-from, number-of, token-of}
 use Rattle.aadl.proofs.RunLaws.{run-end-from}
 use Rattle.aadl.proofs.TokenBounds.{inside, exponent-end-upto, based-upto, decimals-upto}
 use Rattle.cursor.specs.declared.Window.{Window}
@@ -133,35 +133,14 @@ pub scan-number-spec : {M : Type 1} → statement M
 unfolding member
 scan-number-spec =
     tie.close
-    (tie.spec
-    (λ c. search needs)
-    (λ c κs. search needs)
-    (λ c κs. search needs)
-    (λ c. search needs)
-    (λ c. let a = c .before .before .before .before .args in omega (arith, c .before .before .run-end .ensures .0, run-end-from is-digit (a .s .now) (a .at + 1)))
-    (λ c κs. search needs)
-    (λ c. search needs)
-    (λ c κs. search needs)
-    (λ c. let q = c .before .before in omega (arith, c .run-end2 .ensures .0, run-end-from is-ident-continue (text q) (at q + 1)))
-    (λ c κs. search needs)
-    returns
-    (λ c. omega (arith, hash c))
-    (λ c κs. (hash c, c .before .before .before .before .before .before .before .pre .1))
+    (tie.spec (λ c. search needs) (λ c κs. search needs) (λ c κs. search needs) (λ c. search needs)
+    (λ c. let a = c .before .before .before .before .args in omega (arith, c .before .before .run-end .ensures .0, run-end-from is-digit (a .s .now) (a .at + 1))) (λ c κs. search needs)
+    (λ c. search needs) (λ c κs. search needs) (λ c. let q = c .before .before in omega (arith, c .run-end2 .ensures .0, run-end-from is-ident-continue (text q) (at q + 1))) (λ c κs. search needs)
+    returns (λ c. omega (arith, hash c)) (λ c κs. (hash c, c .before .before .before .before .before .before .before .pre .1))
     (λ c. let q = c .before .before .before .before in omega (arith, ap (λ (t : Token). t .len) (c .before .scan-based .ensures), based-upto (text q) (end q + 1) .from, end-from q))
-    (λ c κs. search needs)
-    returns-2
-    (λ c. omega (arith, point c))
-    (λ c κs. search needs)
-    (λ c κs. search needs)
+    (λ c κs. search needs) returns-2 (λ c. omega (arith, point c)) (λ c κs. search needs) (λ c κs. search needs)
     (λ c. let q = c .before .before .before .before .before in omega (arith, c .exponent .ensures ∙ ap (exponent-end (text q)) (c .before .run-end3 .ensures .0), decimals-upto (text q) (end q + 1) .from, end-from q))
-    (λ c κs. search needs)
-    returns-3
-    (λ c κs. search needs)
-    (λ c κs. search needs)
-    (λ c. let q = c .before .before .before .before .before .before in omega (arith, c .exponent2 .ensures, exponent-end-upto (text q) (end q) .from, end-from q))
-    (λ c κs. search needs)
-    returns-4
-    (λ c κs. search needs)
-    (λ c. let q = c .before .before .before .before .before .before in omega (arith, c .run-end4 .ensures .0, run-end-from is-grouped (text q) (end q), end-from q))
-    (λ c κs. search needs)
-    returns-5)
+    (λ c κs. search needs) returns-3 (λ c κs. search needs) (λ c κs. search needs)
+    (λ c. let q = c .before .before .before .before .before .before in omega (arith, c .exponent2 .ensures, exponent-end-upto (text q) (end q) .from, end-from q)) (λ c κs. search needs) returns-4
+    (λ c κs. search needs) (λ c. let q = c .before .before .before .before .before .before in omega (arith, c .run-end4 .ensures .0, run-end-from is-grouped (text q) (end q), end-from q))
+    (λ c κs. search needs) returns-5)

@@ -12,11 +12,7 @@ use Rattle.scan.proofs.scan_token.Tie as tie
 begins : (q : tie.After-lead) (k : ℕ) → q .lead .result ≡ k → let a = q .before .before .before .args in Begins (a .s .now) (a .at) k
 begins q k e =
     let s = q .before .before .before in
-    record {
-      inside = omega (arith, s .pre .0);
-      byte = omega (arith, q .before .before .shared-slice-known .given (s .args .at));
-      leads = sym (q .lead .ensures) ∙ e;
-    }
+    record { inside = omega (arith, s .pre .0); byte = omega (arith, q .before .before .shared-slice-known .given (s .args .at)); leads = sym (q .lead .ensures) ∙ e }
 
 word : tie.Need-scan-ident-or-keyword-requires
 word c κs = let p = c .before .before .before .before .pre in (begins (c .before) _ (c .if1 .taken), p .1, p .3, p .4)
@@ -52,18 +48,5 @@ other c κs =
 pub scan-token-spec : {M : Type 1} → statement M
 scan-token-spec =
     tie.close
-    (tie.spec
-    (λ c. search needs)
-    (λ c κs. c .before .before .pre .2)
-    word
-    (λ c. c .scan-ident-or-keyword .ensures)
-    white
-    (λ c. c .scan-whitespace .ensures)
-    (λ c κs. search needs)
-    mark
-    number
-    (λ c. c .scan-number .ensures)
-    string
-    (λ c. c .scan-string .ensures)
-    other
-    (λ c. c .scan-mark .ensures))
+    (tie.spec (λ c. search needs) (λ c κs. c .before .before .pre .2) word (λ c. c .scan-ident-or-keyword .ensures) white (λ c. c .scan-whitespace .ensures) (λ c κs. search needs) mark number
+    (λ c. c .scan-number .ensures) string (λ c. c .scan-string .ensures) other (λ c. c .scan-mark .ensures))

@@ -69,30 +69,9 @@ returns-5 c = going-stops _ _ _ _ (three (c .before .before .before)) (sym (c .b
 pub word-end-spec : {M : Type 1} → statement M
 word-end-spec =
     tie.close
-    (tie.spec
-    Inv-loop
-    μ-loop
-    (λ c κs. search needs)
-    returns
-    loop-holds
-    (λ c. going-inside _ _ _ _ (c .before .loop .inv))
-    (λ c κs. search needs)
-    returns-2
-    (λ c. omega (arith, going-inside _ _ _ _ (one c)))
-    (λ c. going-inside _ _ _ _ (one (c .before)))
-    (λ c κs. search needs)
-    (λ c. omega (arith, going-inside _ _ _ _ (one (c .before .before .before))))
-    returns-3
-    (λ c. omega (arith, going-inside _ _ _ _ (two c)))
-    (λ c. going-inside _ _ _ _ (two (c .before)))
-    (λ c κs. search needs)
-    (λ c. omega (arith, going-inside _ _ _ _ (two (c .before .before .before))))
-    returns-4
-    (λ c. omega (arith, going-inside _ _ _ _ (three c)))
-    (λ c. going-inside _ _ _ _ (three (c .before)))
-    (λ c κs. search needs)
-    (λ c. omega (arith, going-inside _ _ _ _ (three (c .before .before .before))))
-    returns-5
-    (λ c. omega (arith, going-inside _ _ _ _ (four c)))
-    (λ c. omega (arith, four c .before))
-    four)
+    (tie.spec Inv-loop μ-loop (λ c κs. search needs) returns loop-holds (λ c. going-inside _ _ _ _ (c .before .loop .inv)) (λ c κs. search needs) returns-2
+    (λ c. omega (arith, going-inside _ _ _ _ (one c))) (λ c. going-inside _ _ _ _ (one (c .before))) (λ c κs. search needs)
+    (λ c. omega (arith, going-inside _ _ _ _ (one (c .before .before .before)))) returns-3 (λ c. omega (arith, going-inside _ _ _ _ (two c))) (λ c. going-inside _ _ _ _ (two (c .before)))
+    (λ c κs. search needs) (λ c. omega (arith, going-inside _ _ _ _ (two (c .before .before .before)))) returns-4 (λ c. omega (arith, going-inside _ _ _ _ (three c)))
+    (λ c. going-inside _ _ _ _ (three (c .before))) (λ c κs. search needs) (λ c. omega (arith, going-inside _ _ _ _ (three (c .before .before .before)))) returns-5
+    (λ c. omega (arith, going-inside _ _ _ _ (four c))) (λ c. omega (arith, four c .before)) four)

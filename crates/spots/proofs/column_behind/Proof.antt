@@ -17,9 +17,4 @@ returns-2 c =
     rw (ne-eqb (at-args .args .b) 10 (search needs)) (omega arith)
 
 pub column-behind-spec : {M : Type 1} → statement M
-column-behind-spec =
-    tie.close
-    (tie.spec
-    (λ c κs. search needs)
-    returns
-    returns-2)
+column-behind-spec = tie.close (tie.spec (λ c κs. search needs) returns returns-2)

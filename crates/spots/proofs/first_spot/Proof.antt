@@ -9,7 +9,4 @@ unfolding first
 returns c = refl
 
 pub first-spot-spec : {M : Type 1} → statement M
-first-spot-spec =
-    tie.close
-    (tie.spec
-    returns)
+first-spot-spec = tie.close (tie.spec returns)

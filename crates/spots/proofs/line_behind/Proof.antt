@@ -16,9 +16,4 @@ returns-2 c =
     rw (ne-eqb (at-args .args .b) 10 (search needs)) (omega arith)
 
 pub line-behind-spec : {M : Type 1} → statement M
-line-behind-spec =
-    tie.close
-    (tie.spec
-    (λ c κs. search needs)
-    returns
-    returns-2)
+line-behind-spec = tie.close (tie.spec (λ c κs. search needs) returns returns-2)

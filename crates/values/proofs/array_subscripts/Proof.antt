@@ -53,5 +53,4 @@ returns c =
 pub array-subscripts-spec : {M : Type 1} → statement M
 array-subscripts-spec =
     tie.close
-    (tie.spec Inv-loop μ-loop loop-holds (λ c κs. search needs) (λ c κs. search needs) (λ c κs. search needs) (λ c κs. search needs) loop-less
-    loop-again (λ c. read-long (returns c 0)) returns)
+    (tie.spec Inv-loop μ-loop loop-holds (λ c κs. search needs) (λ c κs. search needs) (λ c κs. search needs) (λ c κs. search needs) loop-less loop-again (λ c. read-long (returns c 0)) returns)

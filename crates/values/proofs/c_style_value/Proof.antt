@@ -17,5 +17,4 @@ returns c =
 pub c-style-value-spec : {M : Type 1} → statement M
 c-style-value-spec =
     tie.close
-    (tie.spec (λ c κs. search needs) (λ c κs. search needs) (λ c κs. search needs) (λ c κs. search needs) (λ c. read-long (returns c 0 .reads))
-    returns)
+    (tie.spec (λ c κs. search needs) (λ c κs. search needs) (λ c κs. search needs) (λ c κs. search needs) (λ c. read-long (returns c 0 .reads)) returns)

@@ -56,5 +56,5 @@ returns c =
 pub named-value-spec : {M : Type 1} → statement M
 named-value-spec =
     tie.close
-    (tie.spec Inv-loop μ-loop (λ c κs. search needs) (λ c κs. search needs) loop-holds (λ c κs. search needs) (λ c κs. search needs)
-    (λ c κs. search needs) loop-less loop-again (λ c κs. search needs) (λ c. read-long (returns c 0 .reads)) returns)
+    (tie.spec Inv-loop μ-loop (λ c κs. search needs) (λ c κs. search needs) loop-holds (λ c κs. search needs) (λ c κs. search needs) (λ c κs. search needs) loop-less loop-again
+    (λ c κs. search needs) (λ c. read-long (returns c 0 .reads)) returns)

@@ -68,5 +68,5 @@ returns-2 c =
 pub segments-spec : {M : Type 1} → statement M
 segments-spec =
     tie.close
-    (tie.spec Inv-loop μ-loop (λ c κs. search needs) loop-holds (λ c κs. search needs) (λ c κs. search needs) (λ c. read-long (returns c 0)) returns
-    (λ c κs. search needs) loop-less loop-again returns-2)
+    (tie.spec Inv-loop μ-loop (λ c κs. search needs) loop-holds (λ c κs. search needs) (λ c κs. search needs) (λ c. read-long (returns c 0)) returns (λ c κs. search needs) loop-less loop-again
+    returns-2)

@@ -51,19 +51,5 @@ returns c =
 pub spell-spec : {M : Type 1} → statement M
 spell-spec =
     tie.close
-    (tie.spec
-    Inv-loop
-    μ-loop
-    loop-holds
-    sub-at
-    (λ c. search needs)
-    (λ c. search needs)
-    slice-write-digits
-    (λ c. search needs)
-    loop-again
-    sub-at-2
-    (λ c. search needs)
-    (λ c. search needs)
-    slice-write-digits-2
-    same-length
-    returns)
+    (tie.spec Inv-loop μ-loop loop-holds sub-at (λ c. search needs) (λ c. search needs) slice-write-digits (λ c. search needs) loop-again sub-at-2 (λ c. search needs) (λ c. search needs)
+    slice-write-digits-2 same-length returns)

@@ -1,0 +1,56 @@
+-- How an event becomes words and comes back from them, and how many words events have. Assumes nothing.
+use Prim.Native.Nat.{ℕ, zero, suc, _+_, _*_, _/_, _%_, min}
+use mathlib.Core.List.{List, map}
+use lib.ListN.{take}
+use Rattle.predictive.specs.Forest.{message, refusal}
+use Rattle.predictive.specs.Events.{Event, start, token, finish, error}
+use Rattle.aadl.specs.Limits.{most-events}
+use Rattle.aadl.specs.Tokens.{kind-in}
+
+-- "Class × 16,777,216 + kind × 65,536 + last. Class 0 Start (last = forward parent, 0 for none), 1 Token (last = 1), 2 Finish,
+-- 3 Error (last = message). Kind is 0 for Finish and Error." Class, kind and last of an event (none is pushed for a refusal):
+abbrev pub fields : Event → ℕ × ℕ × ℕ
+fields (start k up) = (0, k, up)
+fields (token k) = (1, k, 1)
+fields finish = (2, 0, 0)
+fields (error (message m)) = (3, 0, m)
+fields (error (refusal n)) = (3, 0, 0)
+
+abbrev pub event-word : Event → ℕ
+event-word e =
+    let f = fields e in
+    f .0 * 16777216 + f .1 * 65536 + f .2
+
+-- Class and last number in a word; its kind is where a token word has it.
+abbrev pub class-in : ℕ → ℕ
+class-in w = w / 16777216
+
+abbrev pub last-in : ℕ → ℕ
+last-in w = w % 65536
+
+-- The event that a word stands for.
+abbrev pub event-by : (class kind last : ℕ) → Event
+event-by zero k l = start k l
+event-by (suc zero) k l = token k
+event-by (suc (suc zero)) k l = finish
+event-by (suc (suc (suc c))) k l = error (message l)
+
+unfoldable pub event-in : ℕ → Event
+event-in w = event-by (class-in w) (kind-in w) (last-in w)
+
+-- MANY -----------------------------------------------------------------------------------------------------------------
+
+-- For how many events so many lent words have room: "Of the lent event words only the first 32,768 are used."
+abbrev pub room : (lent : ℕ) → ℕ
+room n = min n most-events
+
+-- How many words so many events have.
+abbrev pub words-for : (events : ℕ) → ℕ
+words-for n = n
+
+abbrev pub words-of : List Event → List ℕ
+words-of es = map event-word es
+
+-- The events of the first words, so many events.
+abbrev pub events-in : (count : ℕ) → (words : List ℕ) → List Event
+events-in n ws = map event-in (take (words-for n) ws)

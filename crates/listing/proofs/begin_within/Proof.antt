@@ -1,0 +1,73 @@
+-- What the section call answers and leaves has the listing's lines, of the first bytes and so of the whole text (EndToEnd). Assumes nothing.
+use native.Mathlib.Omega.{arith}
+use mathlib.Core.Path.{_≡_, sym, ap, _∙_}
+use mathlib.Core.Bool.{false}
+use mathlib.Core.List.{List}
+use Prim.Native.Nat.{ℕ}
+use lib.ListN.{length, take}
+use lib.Seq.{length-take-le}
+use Rattle.aadl.specs.Answers.{section-answer, token-words, event-words, left-in}
+use Rattle.aadl.specs.Listing.{listing}
+use Rattle.writing.proofs.LeastLaws.{take-least}
+use Rattle.parser.specs.Input.{input}
+use Rattle.section.proofs.Demands.{Called}
+use Rattle.listing.specs.Positions.{begin}
+use Rattle.listing.specs.Pieces.{joined, left}
+use Rattle.listing.proofs.EndToEnd.{answer-lines, call-listed, first-bytes-listed}
+use borrow.Author.Needs.{needs}
+use Rattle.listing.proofs.begin_within.Statement.{statement}
+use Rattle.listing.proofs.begin_within.Tie as tie
+
+count-src : tie.Need-slice-aggregate-src
+count-src c =
+    let at-least = c .before in
+    let at-text = at-least .before in
+    sym (length-take-le (at-least .least .result) _ (omega (arith, at-least .least .ensures, at-text .text .given .0)))
+
+count-toks : tie.Need-slice-aggregate-first-position
+count-toks c =
+    let at-least = c .before .before .before in
+    sym (length-take-le (at-least .least2 .result) _ (omega (arith, at-least .least2 .ensures)))
+
+returns : tie.Need-returns
+unfolding left
+returns c =
+    let at-least2 = c .before .before .before .before in
+    let at-call = at-least2 .before in
+    let at-events = at-call .before in
+    let at-tokens = at-events .before in
+    let at-least = at-tokens .before .before in
+    let at-text = at-least .before in
+    let x = at-text .before .args in
+    let r = at-call .property-section-within in
+    let ts = r .last .1 .0 in
+    let es = r .last .1 .1 .0 in
+    let a = r .result in
+    let k = c .first-position in
+    let src = take (at-least .least .result) (x .text .now) in
+    let long = at-text .text .given .0 in
+    let s = take-least _ (x .bytes) _ (x .text .now) (at-least .least .ensures) long in
+    let m : length (x .tokens .now) ≡ 16384 = at-tokens .property-section-within-arg .given .0 .1 in
+    let n : length (x .events .now) ≡ 8192 = at-events .property-section-within-arg2 .given .0 .1 in
+    let t = take-least _ (a .tokens) _ ts (at-least2 .least2 .ensures) (r .kept .1 .0 ∙ m) in
+    let called : Called (x .limits) src (x .tokens .now) (x .events .now) a ts es = record { answer = r .ensures .0; token-words-left = r .ensures .1 .0; event-words-left = r .ensures .1 .1 .0 } in
+    let position-is = k .ensures ∙ ap (λ (l : List ℕ). begin (input src l)) t in
+    let listed = call-listed called (at-text .before .pre) m n (k .result) position-is in
+    let told = r .ensures .0 ∙ (λ i. section-answer (x .limits) (s i) (m i) (n i)) in
+    let position-told = position-is ∙ (λ i. begin (input (s i) (take (told i .tokens) ts))) in (
+      (λ i. record { bytes = x .bytes; answer = told i; begun = false; event = 0; position = position-told i }),
+      (
+        r .ensures .1 .0 ∙ (λ i. left-in (section-answer (x .limits) (s i) (m i) (n i)) (token-words (s i)) (x .tokens .now)),
+        (
+          r .ensures .1 .1 .0 ∙ (λ i. left-in (section-answer (x .limits) (s i) (m i) (n i)) (event-words (x .limits) (s i)) (x .events .now)),
+          record {
+            lists =
+                λ t e. (λ i. joined (answer-lines (sym s i) ts es a (k .result))) ∙ listed ∙ ap (listing (x .limits)) (s ∙ e)
+                ∙ first-bytes-listed (x .limits) t (length (x .text .now)) (omega (arith, long, at-text .before .pre));
+          },
+        ),
+      ),
+    )
+
+pub begin-within-spec : {M : Type 1} → statement M
+begin-within-spec = tie.close (tie.spec (λ c κs. search needs) count-src (λ c κs. search needs) (λ c κs. search needs) count-toks (λ c κs. search needs) returns)

@@ -1,0 +1,22 @@
+-- What a record's call answers, and the lines that are written for it. Assumes nothing.
+use Prim.Native.Nat.{ℕ}
+use mathlib.Core.Bool.{Bool, cond}
+use mathlib.Core.List.{List}
+use lib.ListN.{replicate}
+use Rattle.aadl.specs.Limits.{base}
+use Rattle.aadl.specs.Answers.{tokens-answer, section-answer, token-words, event-words, left-in}
+use Rattle.aadl.specs.declared.Answer.{Answer}
+use Rattle.records.specs.Records.{old-word, record-lines}
+
+abbrev pub answer-of : (only : Bool) → (text : List ℕ) → (tokens events : ℕ) → Answer
+answer-of only text m n = cond only (tokens-answer base text m) (section-answer base text m n)
+
+-- The event words after the call: the tokens-only call leaves them as they are.
+abbrev pub events-left : (only : Bool) → Answer → (text old : List ℕ) → List ℕ
+events-left only a text old = cond only old (left-in a (event-words base text) old)
+
+-- The lines of a call on words that are filled anew.
+unfoldable pub called : (only : Bool) → (text : List ℕ) → (tokens events : ℕ) → List ℕ
+called only text m n =
+    let a = answer-of only text m n in
+    record-lines a (left-in a (token-words text) (replicate m old-word)) (events-left only a text (replicate n old-word))
