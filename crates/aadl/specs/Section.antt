@@ -286,8 +286,7 @@ rules Classifier = classifier
 
 abbrev pub operand-heads : List Head
 operand-heads =
-    one C-STYLE
-    ∷ heads (INTEGER-LIT ∷ REAL-LIT ∷ STRING-LIT ∷ TRUE-KW ∷ FALSE-KW ∷ NOT-KW ∷ CLASSIFIER-KW ∷ REFERENCE-KW ∷ COMPUTE-KW ∷ L-PAREN ∷ L-BRACKET ∷ IDENT ∷ PLUS ∷ MINUS ∷ [])
+    one C-STYLE ∷ heads (INTEGER-LIT ∷ REAL-LIT ∷ STRING-LIT ∷ TRUE-KW ∷ FALSE-KW ∷ NOT-KW ∷ CLASSIFIER-KW ∷ REFERENCE-KW ∷ COMPUTE-KW ∷ L-PAREN ∷ L-BRACKET ∷ IDENT ∷ PLUS ∷ MINUS ∷ [])
 
 -- what each rule begins with
 abbrev pub firsts : Rule → List Head
