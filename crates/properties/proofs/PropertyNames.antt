@@ -6,13 +6,13 @@ use mathlib.Core.List.{List, [], _∷_}
 use lib.Dec.{eqb}
 use Rattle.predictive.specs.Forest.{nil, err, message}
 use Rattle.predictive.specs.Grammar.{is, at, has, any, pair, tok}
-use Rattle.predictive.specs.Reader.{done, expected, ones, twos, first, take-any, take-one, take-two, take-look, step, read}
+use Rattle.predictive.specs.Reader.{done, expected, ones, twos, first, take-any, take-one, take-two, take-look, step, below, read}
 use Rattle.predictive.specs.Events.{error}
 use Rattle.predictive.proofs.Tests.{never, or-l, or-r}
-use Rattle.predictive.proofs.Heads.{at-end, at-twos}
-use Rattle.predictive.proofs.Takes.{at-twos-both}
+use Rattle.predictive.proofs.Heads.{at-twos}
 use Rattle.aadl.specs.Symbols.{shown}
 use Rattle.aadl.specs.Section.{keywords, grammar, property-name}
+use Rattle.aadl.proofs.Asides.{name-stands}
 use Rattle.parser.specs.declared.Parser.{Parser}
 use Rattle.parser.specs.Input.{Input, rest}
 use Rattle.parser.specs.State.{push}
@@ -29,13 +29,8 @@ r-two x y = r-same (λ n h. refl) (r-seq x y)
 
 -- the name where it stands, and where it does not
 name-yes : (n d m : ℕ) (xs : List ℕ) → at (heads-of (property-name m)) xs ≡ true → take-any shown xs ≡ read grammar n d (property-name m) xs
-unfolding read step first ones twos take-any take-one take-look
-name-yes n d m [] e = never (sym (at-end (twos keywords 6)) ∙ e)
-name-yes n d m (x ∷ xs) e = go (eqb x 33) refl
-  where
-    go : (t : Bool) → eqb x 33 ≡ t → take-any shown (x ∷ xs) ≡ read grammar n d (property-name m) (x ∷ xs)
-    go true q = rw q refl
-    go false q = rw (q, at-twos-both keywords 6 x xs (rw q at e)) refl
+unfolding read
+name-yes n d m xs e = sym (name-stands n d (below grammar n d) m xs e)
 
 name-no : (n d m : ℕ) (xs : List ℕ) → at (heads-of (property-name m)) xs ≡ false → done (err (message m) nil) xs ≡ read grammar n d (property-name m) xs
 unfolding read step first ones twos take-one take-look
