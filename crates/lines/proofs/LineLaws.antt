@@ -1,5 +1,5 @@
 -- Where a word tells its event, its line is the listing's; a line is its fields one after the other; and no line is longer than its room. Assumes nothing.
-use Prim.Native.Nat.{ℕ, zero, suc, _/_, _%_, _^_, _≤_, _<_}
+use Prim.Native.Nat.{ℕ, zero, suc, _^_, _≤_, _<_}
 use native.Mathlib.Omega.{arith}
 use mathlib.Core.Path.{_≡_, refl, sym, ap, _∙_}
 use mathlib.Core.Bool.{Bool, true, false, cond}
@@ -13,7 +13,8 @@ use Rattle.aadl.specs.declared.Answer.{Answer}
 use Rattle.aadl.specs.Words.{bytes}
 use Rattle.aadl.specs.declared.Limits.{Limits}
 use Rattle.aadl.specs.Symbols.{symbols, start-of}
-use Rattle.aadl.specs.Encoding.{fields, event-word, event-by, event-in}
+use Rattle.aadl.specs.Tokens.{kind-in}
+use Rattle.aadl.specs.Encoding.{fields, event-word, event-by, event-in, class-in, last-in}
 use Rattle.aadl.specs.Reading.{events}
 use Rattle.aadl.specs.Answers.{section-answer}
 use Rattle.aadl.specs.Listing.{decimal, line-after, column-after, row, letter, event-line, event-lines, listing}
@@ -24,15 +25,15 @@ use Rattle.spots.specs.Spots.{first, spot-after}
 use Rattle.spots.proofs.SpotLaws.{spot-of}
 
 -- the event in a word of a class, and of a class above 2
-pub event-by-class : (w c : ℕ) → w / 16777216 ≡ c → event-in w ≡ event-by c (w / 65536 % 256) (w % 65536)
+pub event-by-class : (w c : ℕ) → class-in w ≡ c → event-in w ≡ event-by c (kind-in w) (last-in w)
 unfolding event-in
-event-by-class w c e = ap (λ (x : ℕ). event-by x (w / 65536 % 256) (w % 65536)) e
+event-by-class w c e = ap (λ (x : ℕ). event-by x (kind-in w) (last-in w)) e
 
-pub event-by-high : (w : ℕ) → 3 ≤ w / 16777216 → event-in w ≡ error (message (w % 65536))
+pub event-by-high : (w : ℕ) → 3 ≤ class-in w → event-in w ≡ error (message (last-in w))
 unfolding event-in
-event-by-high w h = go (w / 16777216) h
+event-by-high w h = go (class-in w) h
   where
-    go : (c : ℕ) → 3 ≤ c → event-by c (w / 65536 % 256) (w % 65536) ≡ error (message (w % 65536))
+    go : (c : ℕ) → 3 ≤ c → event-by c (kind-in w) (last-in w) ≡ error (message (last-in w))
     go zero h = absurd (omega arith)
     go (suc zero) h = absurd (omega arith)
     go (suc (suc zero)) h = absurd (omega arith)

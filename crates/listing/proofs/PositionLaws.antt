@@ -1,6 +1,6 @@
 -- From event to event a position stands behind the tokens that the events before took, at the spot of the next one; so the lines of the event
 -- words of an answer are the listing's. By induction over the events. Assumes nothing.
-use Prim.Native.Nat.{ℕ, zero, suc, _+_, _/_, _%_, _≤_, _<_}
+use Prim.Native.Nat.{ℕ, zero, suc, _+_, _≤_, _<_}
 use native.Mathlib.Omega.{arith}
 use native.Mathlib.Numerals.{add-one}
 use native.Mathlib.Nat.{add-zero}
@@ -14,7 +14,7 @@ use Rattle.predictive.specs.Events.{Event, start, token, finish, error, taken}
 use Rattle.aadl.specs.declared.Limits.{Limits}
 use Rattle.aadl.specs.Limits.{Allowed}
 use Rattle.aadl.specs.Symbols.{is-trivia, symbols, start-of}
-use Rattle.aadl.specs.Encoding.{event-word, event-by, event-in}
+use Rattle.aadl.specs.Encoding.{event-word, event-by, event-in, class-in, last-in}
 use Rattle.aadl.specs.Reading.{events}
 use Rattle.aadl.specs.Answers.{section-answer, token-words, event-words}
 use Rattle.aadl.specs.Listing.{event-lines, listing}
@@ -46,16 +46,16 @@ begin-is inp e f g =
     let q = g ∙ ap₂ (λ (x : Spot) (y : Parser). spot-after (inp .text) x (y .byte)) f e in
     λ i. record { parser = e i; spot = q i }
 
-pub step-token : (inp : Input) (w : ℕ) (c : Position) {p : Parser} {s : Spot} → w / 16777216 ≡ 1 →
+pub step-token : (inp : Input) (w : ℕ) (c : Position) {p : Parser} {s : Spot} → class-in w ≡ 1 →
     p ≡ behind-token inp (c .parser) → s ≡ spot-after (inp .text) (c .spot) (p .byte) → record { parser = p; spot = s } ≡ step inp w c
 unfolding step
 step-token inp w c h e g =
     let q = g ∙ ap (λ (y : Parser). spot-after (inp .text) (c .spot) (y .byte)) e in
-    (λ i. record { parser = e i; spot = q i }) ∙ sym (ap (λ (t : Bool). cond t (with-token inp c) c) (eq-eqb (w / 16777216) 1 h))
+    (λ i. record { parser = e i; spot = q i }) ∙ sym (ap (λ (t : Bool). cond t (with-token inp c) c) (eq-eqb (class-in w) 1 h))
 
-pub step-other : (inp : Input) (w : ℕ) (c : Position) → (w / 16777216 ≡ 1 → ⊥) → c ≡ step inp w c
+pub step-other : (inp : Input) (w : ℕ) (c : Position) → (class-in w ≡ 1 → ⊥) → c ≡ step inp w c
 unfolding step
-step-other inp w c h = sym (ap (λ (t : Bool). cond t (with-token inp c) c) (ne-eqb (w / 16777216) 1 h))
+step-other inp w c h = sym (ap (λ (t : Bool). cond t (with-token inp c) c) (ne-eqb (class-in w) 1 h))
 
 -- WHICH WORDS TAKE A TOKEN ---------------------------------------------------------------------------------------------
 
@@ -67,9 +67,9 @@ takes (error m) = false
 
 takes-by-class : (w : ℕ) → takes (event-in w) ≡ is-token w
 unfolding event-in takes
-takes-by-class w = go (w / 16777216)
+takes-by-class w = go (class-in w)
   where
-    go : (c : ℕ) → takes (event-by c (w / 65536 % 256) (w % 65536)) ≡ eqb c 1
+    go : (c : ℕ) → takes (event-by c (kind-in w) (last-in w)) ≡ eqb c 1
     go zero = refl
     go (suc zero) = refl
     go (suc (suc zero)) = refl
