@@ -24,7 +24,7 @@ use Rattle.aadl.specs.Section.{Rule, rules, Expression, Negated, Operand
 use Rattle.aadl.specs.Encoding.{event-word, event-by, event-in, events-in}
 use Rattle.aadl.specs.Reading.{reading, events, too-deep}
 use Rattle.aadl.specs.Answers.{event-words}
-use Rattle.aadl.proofs.Lists.{Each}
+use Rattle.aadl.proofs.Lists.{Each, each-append}
 use Rattle.aadl.proofs.TokensCover.{kinds-small}
 use Rattle.aadl.proofs.SymbolLaws.{symbols-show-kinds}
 
@@ -64,10 +64,6 @@ events-back [] h = refl
 events-back (e ∷ es) h = ap₂ (λ (d : Event) (ds : List Event). d ∷ ds) (event-back e (h .0)) (events-back es (h .1))
 
 -- THE EVENTS OF A FOREST -----------------------------------------------------------------------------------------------
-
-each-append : (P : Event → Type 0) (es ds : List Event) → Each P es → Each P ds → Each P (es ++ ds)
-each-append P [] ds h i = i
-each-append P (e ∷ es) ds h i = (h .0, each-append P es ds (h .1) i)
 
 behind-within : (f : Forest) (up : ℕ) → behind-start f ≤ length (E.events f up)
 unfolding E.events

@@ -18,8 +18,12 @@ pub mod Refusals
 pub mod Asides
 pub mod EventWords
 pub mod AnswerDerived
+pub mod RecordLaws
+pub mod TreeAnswers
+pub mod RecordsUpwards
 pub mod Computing
 pub mod Examples
+pub mod RecordExamples
 pub mod SameRuns
 pub mod SameNumbers
 pub mod SameMarks

@@ -10,4 +10,5 @@ pub mod Encoding
 pub mod Reading
 pub mod Answers
 pub mod Demand
+pub mod Records
 pub mod Listing

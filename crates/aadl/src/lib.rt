@@ -27,3 +27,9 @@ pub struct Answer {
     pub taken: usize,
     pub events: usize,
 }
+
+// What the tree call answers: what the section call does, and the number of records.
+pub struct TreeAnswer {
+    pub answer: Answer,
+    pub records: usize,
+}
