@@ -1,0 +1,12 @@
+pub mod Chains
+pub mod Walking
+pub mod Growing
+pub mod Laid
+pub mod ChainWriting
+pub mod Sounding
+pub mod Holding
+pub mod Turning
+pub mod Building
+pub mod TokenPlaces
+pub mod Demands
+pub mod Calling
