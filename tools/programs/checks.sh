@@ -118,6 +118,17 @@ record() {
     cat "$text"
 }
 
+# A record of the extended form: call, settings, `text`, lent token words, lent event words, the call's own number.
+extended() {
+    for n in 4294967295 "$1" "$2" "$(size "$text")" "$3" "$4" "$5"; do number "$n"; done
+    cat "$text"
+}
+
+# A record of the tree call: `text`, lent token words, lent event words, lent record words.
+tree() {
+    extended 1 4294967295 "$@"
+}
+
 # The listing of `text` by 01's rule, from its bytes and the words of the answer to a record.
 listing() {
     { od -An -v -tu1 "$text"; record 16384 8192 | "$reference"; } | awk '
@@ -144,13 +155,27 @@ lists() {
     esac
 }
 
-# A record of `text` with 40,000 words of each sort must be answered as the reference has it; the lines `answer` and `rest` are known.
+# The record in `input` must be answered as the reference has it; the lines without words are known.
+answered() {
+    name=$1
+    "$reference" < "$input" > "$to/want"
+    gives "$name" "$replay" < "$input"
+    shift
+    printf '%s\n' "$@" > "$to/want"
+    gives "$name, the lines without words" sh -c '"$0" | grep -e ^answer -e ^rest -e ^left' "$replay" < "$input"
+}
+
+# A record of `text` with 40,000 words of each sort.
 answers() {
     record 40000 40000 > "$input"
-    "$reference" < "$input" > "$to/want"
-    gives "$1" "$replay" < "$input"
-    printf '%s\n' "$2" "$3" > "$to/want"
-    gives "$1, answer and rest" sh -c '"$0" | grep -e ^answer -e ^rest' "$replay" < "$input"
+    answered "$@"
+}
+
+# The same of the tree call, with so many record words.
+answers_tree() {
+    tree 40000 40000 "$1" > "$input"
+    shift
+    answered "$@"
 }
 
 # Standard input can't be read.

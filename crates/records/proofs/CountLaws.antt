@@ -1,17 +1,18 @@
--- Words that hold a value, counted one by one: those counted and those among the words that are left make up the whole. And which words are counted.
--- Assumes nothing.
-use Prim.Native.Nat.{ℕ, suc, _+_, _-_, _≤_, _<_, min}
+-- Words that hold a value, counted one by one: those counted and those among the words that are left make up the whole. And which words are counted,
+-- and written. Assumes nothing.
+use Prim.Native.Nat.{ℕ, suc, _+_, _-_, _*_, _≤_, _<_, min}
 use native.Mathlib.Numerals.{add-one}
 use native.Mathlib.Omega.{arith}
-use mathlib.Core.Path.{_≡_, refl, ap, _∙_}
+use mathlib.Core.Path.{_≡_, refl, sym, ap, _∙_}
 use mathlib.Core.Bool.{cond}
-use mathlib.Core.List.{List}
+use mathlib.Core.List.{List, [], _∷_, _++_}
 use lib.ListN.{length, getD, take, drop, length-drop, drop-of-length-le}
 use lib.Seq.{drop-cons, take-all}
 use lib.Dec.{eqb}
 use borrow.Author.Tests.{eq-eqb, ne-eqb}
-use Rattle.writing.proofs.LeastLaws.{drop-within}
-use Rattle.records.specs.Records.{old-word, count, rest}
+use Rattle.writing.proofs.LeastLaws.{take-within, drop-within}
+use Rattle.aadl.specs.Words.{bytes}
+use Rattle.records.specs.Records.{old-word, line, count, rest, more-lines}
 
 pub record Counted (v : ℕ) (ws : List ℕ) (n i : ℕ) : Type 0 where
   pub whole : n + count v (drop i ws) ≡ count v ws
@@ -46,3 +47,17 @@ unfolding rest
 rest-kept number used from ws e f =
     let all = take-all (length ws - from) (drop from ws) (omega (arith, length-drop from ws)) in
     ap (count old-word) (all ∙ ap (λ (k : ℕ). drop k ws) f ∙ drop-within used ws) ∙ rw (eq-eqb number 0 e) refl
+
+-- LINES ----------------------------------------------------------------------------------------------------------------
+
+-- A number of used words past the lent ones is as good as theirs.
+more-least : (number used : ℕ) (ws : List ℕ) → more-lines number (min used (length ws)) ws ≡ more-lines number used ws
+unfolding more-lines rest
+more-least number used ws =
+    λ i. line (bytes "more") (take-within used ws i) ++ line (bytes "left") (cond (eqb number 0) (count old-word (drop-within used ws i)) (count 0 ws) ∷ [])
+
+-- So it is for words that are used four by four.
+pub more-within : (number n k : ℕ) (ws : List ℕ) → k ≡ min n (length ws) → more-lines number (k * 4) ws ≡ more-lines number (n * 4) ws
+more-within number n k ws e =
+    let q : min (k * 4) (length ws) ≡ min (n * 4) (length ws) = omega (arith, e) in
+    sym (more-least number (k * 4) ws) ∙ ap (λ (used : ℕ). more-lines number used ws) q ∙ more-least number (n * 4) ws

@@ -1,11 +1,12 @@
--- The four lines of a record, as tools/README.md has them: the answer, the words that it counts, and how many of the other words keep what they held.
--- Assumes nothing.
-use Prim.Native.Nat.{ℕ, suc}
+-- The lines of a record, as tools/README.md has them: the answer, the words that it counts, and how many of the other words keep what they held; then the
+-- same of the words that a call writes besides tokens and events. Assumes nothing.
+use Prim.Native.Nat.{ℕ, suc, _*_}
 use mathlib.Core.Bool.{cond}
 use mathlib.Core.List.{List, [], _∷_, _++_}
 use lib.ListN.{take, drop}
 use lib.Dec.{eqb}
 use Rattle.aadl.specs.declared.Answer.{Answer}
+use Rattle.aadl.specs.declared.TreeAnswer.{TreeAnswer}
 use Rattle.aadl.specs.Words.{bytes}
 use Rattle.aadl.specs.Listing.{decimal}
 use Rattle.aadl.specs.Encoding.{words-for}
@@ -32,8 +33,28 @@ count v (w ∷ ws) = cond (eqb w v) (suc (count v ws)) (count v ws)
 unfoldable pub rest : (number used : ℕ) → List ℕ → ℕ
 rest number used ws = cond (eqb number 0) (count old-word (drop used ws)) (count 0 ws)
 
-unfoldable pub record-lines : Answer → (tokens events : List ℕ) → List ℕ
-record-lines a ts es =
-    ((line (bytes "answer") (a .number ∷ a .place ∷ a .tokens ∷ a .taken ∷ a .events ∷ []) ++ line (bytes "tokens") (take (a .tokens) ts))
-    ++ line (bytes "events") (take (words-for (a .events)) es))
+-- LINES ----------------------------------------------------------------------------------------------------------------
+
+-- An answer's five numbers after their name.
+unfoldable pub named-answer : Answer → List ℕ
+named-answer a = bytes "answer" ++ spaced (a .number ∷ a .place ∷ a .tokens ∷ a .taken ∷ a .events ∷ [])
+
+-- The lines of the token and of the event words.
+unfoldable pub word-lines : Answer → (tokens events : List ℕ) → List ℕ
+word-lines a ts es =
+    (line (bytes "tokens") (take (a .tokens) ts) ++ line (bytes "events") (take (words-for (a .events)) es))
     ++ line (bytes "rest") (rest (a .number) (a .tokens) ts ∷ rest (a .number) (words-for (a .events)) es ∷ [])
+
+-- The lines of words that a call writes besides: those that it used, and how many of the others keep what they held.
+unfoldable pub more-lines : (number used : ℕ) → List ℕ → List ℕ
+more-lines number used ws = line (bytes "more") (take used ws) ++ line (bytes "left") (rest number used ws ∷ [])
+
+-- RECORDS --------------------------------------------------------------------------------------------------------------
+
+-- The four lines of a record. A call's own field, if it adds one to the answer, stands behind the five numbers after one more space.
+unfoldable pub record-lines : Answer → (added : List ℕ) → (tokens events : List ℕ) → List ℕ
+record-lines a added ts es = (named-answer a ++ added) ++ (10 ∷ word-lines a ts es)
+
+-- The six lines of a record of the tree call, which adds the number of records; a record is four words.
+unfoldable pub tree-lines : TreeAnswer → (tokens events records : List ℕ) → List ℕ
+tree-lines a ts es rs = record-lines (a .answer) (32 ∷ decimal (a .records)) ts es ++ more-lines (a .answer .number) (a .records * 4) rs

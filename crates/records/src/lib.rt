@@ -1,17 +1,18 @@
 // What `replay` writes for a record: the lines of a call's answer and of the words that it leaves, into lent bytes. tools/README.md says what the lines are.
 // What has no room is left out (`writing`): a caller sees to room.
 use aadl::Answer;
+use aadl::TreeAnswer;
 use writing::least;
 use writing::put_byte;
 use writing::put_decimal;
 use writing::put_text;
 ghost use mathlib.Core.Path.{_≡_};
 ghost use mathlib.Core.List.{[], _∷_};
-ghost use lib.ListN.{length, replicate};
+ghost use lib.ListN.{length, take, replicate};
 ghost use Rattle.aadl.specs.Words.{bytes};
 ghost use Rattle.aadl.specs.Listing.{decimal};
 ghost use Rattle.writing.specs.Written.{Wrote};
-ghost use Rattle.records.specs.Records.{old-word, spaced, line, count, rest, record-lines};
+ghost use Rattle.records.specs.Records.{old-word, spaced, line, count, rest, named-answer, word-lines, more-lines, record-lines, tree-lines};
 
 // What every lent word holds before a call.
 const OLD: u32 = 2779096485;
@@ -81,25 +82,26 @@ fn put_words(out: &mut [u8], at: usize, words: &[u32]) -> usize
     end
 }
 
-// A line of words after a name.
-fn put_line(out: &mut [u8], at: usize, name: &[u8], words: &[u32]) -> usize
-    ensures { λ r. ⌜ Wrote (now (out .entry)) at (line (now (name .entry)) (now (words .entry))) (now (out .exit)) r ⌝ }
+// A line of the first words after a name.
+fn put_line(out: &mut [u8], at: usize, name: &[u8], words: &[u32], used: usize) -> usize
+    ensures { λ r. ⌜ Wrote (now (out .entry)) at (line (now (name .entry)) (take used (now (words .entry)))) (now (out .exit)) r ⌝ }
 {
+    let n = least(used, words.len());
     let mut end = put_text(out, at, name);
-    end = put_words(out, end, words);
+    end = put_words(out, end, &words[..n]);
     put_byte(out, end, b'\n')
 }
 
+// An answer's five numbers after their name. The line ends behind what a call adds to them.
 fn put_answer(out: &mut [u8], at: usize, a: Answer) -> usize
-    ensures { λ r. ⌜ Wrote (now (out .entry)) at (line (bytes "answer") (a .number ∷ a .place ∷ a .tokens ∷ a .taken ∷ a .events ∷ [])) (now (out .exit)) r ⌝ }
+    ensures { λ r. ⌜ Wrote (now (out .entry)) at (named-answer a) (now (out .exit)) r ⌝ }
 {
     let mut end = put_text(out, at, b"answer");
     end = put_number(out, end, a.number as u64);
     end = put_number(out, end, a.place as u64);
     end = put_number(out, end, a.tokens as u64);
     end = put_number(out, end, a.taken as u64);
-    end = put_number(out, end, a.events as u64);
-    put_byte(out, end, b'\n')
+    put_number(out, end, a.events as u64)
 }
 
 fn put_rest(out: &mut [u8], at: usize, tokens: usize, events: usize) -> usize
@@ -111,19 +113,60 @@ fn put_rest(out: &mut [u8], at: usize, tokens: usize, events: usize) -> usize
     put_byte(out, end, b'\n')
 }
 
-// The four lines of a record.
-pub fn put_record(out: &mut [u8], at: usize, a: Answer, tokens: &[u32], events: &[u32]) -> usize
-    ensures { λ r. ⌜ Wrote (now (out .entry)) at (record-lines a (now (tokens .entry)) (now (events .entry))) (now (out .exit)) r ⌝ }
+fn put_left(out: &mut [u8], at: usize, left: usize) -> usize
+    ensures { λ r. ⌜ Wrote (now (out .entry)) at (line (bytes "left") (left ∷ [])) (now (out .exit)) r ⌝ }
 {
-    let t = least(a.tokens, tokens.len());
-    let e = least(a.events, events.len());
-    let mut end = put_answer(out, at, a);
-    end = put_line(out, end, b"tokens", &tokens[..t]);
-    end = put_line(out, end, b"events", &events[..e]);
+    let mut end = put_text(out, at, b"left");
+    end = put_number(out, end, left as u64);
+    put_byte(out, end, b'\n')
+}
+
+// The end of the answer's line, and the lines of the token and event words.
+fn put_buffers(out: &mut [u8], at: usize, a: Answer, tokens: &[u32], events: &[u32]) -> usize
+    ensures { λ r. ⌜ Wrote (now (out .entry)) at (10 ∷ word-lines a (now (tokens .entry)) (now (events .entry))) (now (out .exit)) r ⌝ }
+{
+    let mut end = put_byte(out, at, b'\n');
+    end = put_line(out, end, b"tokens", tokens, a.tokens);
+    end = put_line(out, end, b"events", events, a.events);
     put_rest(
         out,
         end,
         rest_of(tokens, a.number, a.tokens),
         rest_of(events, a.number, a.events),
     )
+}
+
+// The lines of words that a call writes besides: those that it used, and how many of the others keep what they held.
+fn put_more(out: &mut [u8], at: usize, number: u32, used: usize, words: &[u32]) -> usize
+    ensures { λ r. ⌜ Wrote (now (out .entry)) at (more-lines number used (now (words .entry))) (now (out .exit)) r ⌝ }
+{
+    let end = put_line(out, at, b"more", words, used);
+    put_left(out, end, rest_of(words, number, used))
+}
+
+// The four lines of a record.
+pub fn put_record(out: &mut [u8], at: usize, a: Answer, tokens: &[u32], events: &[u32]) -> usize
+    ensures { λ r. ⌜ Wrote (now (out .entry)) at (record-lines a [] (now (tokens .entry)) (now (events .entry))) (now (out .exit)) r ⌝ }
+{
+    let end = put_answer(out, at, a);
+    put_buffers(out, end, a, tokens, events)
+}
+
+// The six lines of a record of the tree call.
+pub fn put_tree(
+    out: &mut [u8],
+    at: usize,
+    a: TreeAnswer,
+    tokens: &[u32],
+    events: &[u32],
+    records: &[u32],
+) -> usize
+    ensures { λ r. ⌜ Wrote (now (out .entry)) at (tree-lines a (now (tokens .entry)) (now (events .entry)) (now (records .entry))) (now (out .exit)) r ⌝ }
+{
+    let answer = a.answer;
+    let used = least(a.records, records.len()) * 4;
+    let mut end = put_answer(out, at, answer);
+    end = put_number(out, end, a.records as u64);
+    end = put_buffers(out, end, answer, tokens, events);
+    put_more(out, end, answer.number, used, records)
 }

@@ -1,12 +1,13 @@
 -- What a record's call answers, and the lines that are written for it. Assumes nothing.
 use Prim.Native.Nat.{ℕ}
 use mathlib.Core.Bool.{Bool, cond}
-use mathlib.Core.List.{List}
+use mathlib.Core.List.{List, []}
 use lib.ListN.{replicate}
 use Rattle.aadl.specs.Limits.{base}
 use Rattle.aadl.specs.Answers.{tokens-answer, section-answer, token-words, event-words, left-in}
+use Rattle.aadl.specs.Records.{record-words, tree-answer}
 use Rattle.aadl.specs.declared.Answer.{Answer}
-use Rattle.records.specs.Records.{old-word, record-lines}
+use Rattle.records.specs.Records.{old-word, record-lines, tree-lines}
 
 abbrev pub answer-of : (only : Bool) → (text : List ℕ) → (tokens events : ℕ) → Answer
 answer-of only text m n = cond only (tokens-answer base text m) (section-answer base text m n)
@@ -19,4 +20,14 @@ events-left only a text old = cond only old (left-in a (event-words base text) o
 unfoldable pub called : (only : Bool) → (text : List ℕ) → (tokens events : ℕ) → List ℕ
 called only text m n =
     let a = answer-of only text m n in
-    record-lines a (left-in a (token-words text) (replicate m old-word)) (events-left only a text (replicate n old-word))
+    record-lines a [] (left-in a (token-words text) (replicate m old-word)) (events-left only a text (replicate n old-word))
+
+-- The lines of the tree call, likewise.
+unfoldable pub tree-called : (text : List ℕ) → (tokens events records : ℕ) → List ℕ
+tree-called text m n k =
+    let r = tree-answer base text m n k in
+    let a = r .answer in
+    tree-lines r
+    (left-in a (token-words text) (replicate m old-word))
+    (left-in a (event-words base text) (replicate n old-word))
+    (left-in a (record-words base text) (replicate k old-word))

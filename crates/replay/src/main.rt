@@ -1,11 +1,12 @@
 // Replays calls of the library: reads records from standard input and writes what each call answers and leaves in the lent
 // words, for tools/compare to hold against the Rust. tools/README.md says what a record is and what is written for one. Beside
-// src/ stand a sample of records, `stdin`, and what the Rust gives for them, `stdout`; tools/compare/sample writes both. A failed read or write is told on
+// src/ stand a sample of records, `stdin`, and what the oracle gives for them, `stdout`; tools/compare/sample writes both. A failed read or write is told on
 // standard error, and nothing more is written. No contract says what is read or written.
 use aadl::Answer;
 use libc::STDIN_FILENO;
 use records::fill;
 use records::put_record;
+use records::put_tree;
 use streams::read_full;
 use streams::write_out;
 use writing::put_text;
@@ -16,26 +17,32 @@ ghost use lib.ListN.{length, replicate};
 ghost use Rattle.aadl.specs.Words.{bytes};
 ghost use Rattle.writing.specs.Written.{Wrote};
 ghost use Rattle.aadl.specs.Answers.{token-words, left-in};
-ghost use Rattle.replay.specs.Calls.{answer-of, events-left, called};
-ghost use Rattle.replay.specs.Heads.{number-at, record-head};
+ghost use Rattle.replay.specs.Calls.{answer-of, events-left, called, tree-called};
+ghost use Rattle.replay.specs.Heads.{number-at, head-from, extended, known, record-head};
 
-// How many bytes and words of each sort the longest record has.
+// How many bytes, token words and event words the longest record has, and how many record words: four for a record.
 const MOST: usize = 40000;
 
-// How many bytes wait to be written at the most, and how many a record's lines take at the most: 11 for each word, and some for names and numbers.
-const OUT: usize = 1048576;
+const RECORDS: usize = 160000;
 
-const LINES: usize = 880200;
+// How many bytes wait to be written at the most, and how many a record's lines take at the most: 11 for each word, and some for names and numbers. A record has
+// 40,000 token and 40,000 event words at the most, and 65,536 record words, since each node has two of 32,768 events.
+const OUT: usize = 1703936;
 
-// In a record, in the place of the number of lent event words: the tokens-only call.
-const TOKENS_ONLY: u32 = 4294967295;
+const LINES: usize = 1601296;
 
-// The numbers with which a record begins, and whether it asks for the tokens-only call, which is lent no event words.
+// In a record, in the place of a number: a record of the extended form, the largest settings, no event words.
+const NONE: u32 = 4294967295;
+
+// The numbers with which a record begins: the call (0 for the section call or the tokens-only call, 1 for the tree call), the text's bytes, the lent words, and
+// whether the record says that no event words are lent, which are 0 then. The last number is the call's own: the tree call's lent record words.
 struct Head {
+    call: u32,
     text: usize,
     tokens: usize,
     events: usize,
     only: bool,
+    own: usize,
 }
 
 // How many bytes of the output wait to be written, and whether another record may follow.
@@ -52,8 +59,8 @@ fn wide(b: u8) -> u32
 }
 
 // Four bytes from a place on as a number, the lowest first.
-fn number_at(b: &[u8; 12], i: usize) -> u32
-    requires { ⌜ i ≤ 8 ⌝ }
+fn number_at(b: &[u8; 16], i: usize) -> u32
+    requires { ⌜ i ≤ 12 ⌝ }
     ensures { λ r. ⌜ r ≡ number-at (now (b .entry)) i ⌝ }
 {
     wide(b[i]) + wide(b[i + 1]) * 256 + wide(b[i + 2]) * 65536 + wide(b[i + 3]) * 16777216
@@ -87,20 +94,65 @@ fn call(
     put_record(out, at, a, tokens, events)
 }
 
-fn head_of(b: &[u8; 12]) -> Head
-    ensures { λ r. ⌜ r ≡ record-head (now (b .entry)) ⌝ }
+// Makes a record's tree call on words that are filled anew, and puts its lines.
+fn call_tree(
+    src: &[u8],
+    tokens: &mut [u32],
+    events: &mut [u32],
+    records: &mut [u32],
+    out: &mut [u8],
+    at: usize,
+) -> usize
+    ensures { λ r. ⌜ Wrote (now (out .entry)) at (tree-called (now (src .entry)) (length (now (tokens .entry))) (length (now (events .entry))) (length (now (records .entry)))) (now (out .exit)) r ⌝ }
+{
+    fill(tokens);
+    fill(events);
+    fill(records);
+    let a = tree::property_tree(src, tokens, events, records);
+    put_tree(out, at, a, tokens, events, records)
+}
+
+// The text and the lent words, which stand in a row in both forms of a record, with a call and its own number.
+fn head_from(b: &[u8; 16], call: u32, own: usize) -> Head
+    ensures { λ r. ⌜ r ≡ head-from (now (b .entry)) call own ⌝ }
 {
     let events = number_at(b, 8);
-    let only = events == TOKENS_ONLY;
+    let only = events == NONE;
     Head {
+        call,
         text: number_at(b, 0) as usize,
         tokens: number_at(b, 4) as usize,
         events: if only { 0 } else { events as usize },
         only,
+        own,
     }
 }
 
-// The line for a record that ends early or asks for too much, after which nothing more is read.
+fn is_extended(front: &[u8; 16]) -> bool
+    ensures { λ r. ⌜ r ≡ extended (now (front .entry)) ⌝ }
+{
+    number_at(front, 0) == NONE
+}
+
+// Whether a record of the extended form is one that there is.
+fn is_known(front: &[u8; 16], back: &[u8; 16]) -> bool
+    ensures { λ r. ⌜ r ≡ known (now (front .entry)) (now (back .entry)) ⌝ }
+{
+    let call = number_at(front, 4);
+    let own = number_at(back, 12);
+    (number_at(front, 8) == NONE) & ((call == 1) | ((call == 0) & (own == 0)))
+}
+
+fn head_of(front: &[u8; 16], back: &[u8; 16]) -> Head
+    ensures { λ r. ⌜ r ≡ record-head (now (front .entry)) (now (back .entry)) ⌝ }
+{
+    if is_extended(front) {
+        return head_from(back, number_at(front, 4), number_at(back, 12) as usize);
+    }
+    head_from(front, 0, 0)
+}
+
+// The line for a record that ends early, asks for too much or for a call that there is none of. Nothing more is read after it.
 fn bad(out: &mut [u8], at: usize) -> Step
     ensures { λ r. ⌜ Wrote (now (out .entry)) at (bytes "bad record\n") (now (out .exit)) (r .at) × (r .on ≡ false) ⌝ }
 {
@@ -124,6 +176,7 @@ fn lend(
     text: &[u8],
     tokens: &mut [u32],
     events: &mut [u32],
+    records: &mut [u32],
     h: Head,
     out: &mut [u8],
     at: usize,
@@ -131,17 +184,18 @@ fn lend(
     let n = h.text;
     let t = h.tokens;
     let e = h.events;
-    if text.len() < n || tokens.len() < t || events.len() < e {
+    let m = h.own;
+    if text.len() < n || tokens.len() < t || events.len() < e || records.len() < m {
         return bad(out, at);
     }
-    let next = call(
-        &text[0..n],
-        &mut tokens[0..t],
-        &mut events[0..e],
-        h.only,
-        out,
-        at,
-    );
+    let src = &text[0..n];
+    let lent_tokens = &mut tokens[0..t];
+    let lent_events = &mut events[0..e];
+    let next = if h.call == 1 {
+        call_tree(src, lent_tokens, lent_events, &mut records[0..m], out, at)
+    } else {
+        call(src, lent_tokens, lent_events, h.only, out, at)
+    };
     Step { at: next, on: true }
 }
 
@@ -150,6 +204,7 @@ fn answer_record(
     text: &mut [u8],
     tokens: &mut [u32],
     events: &mut [u32],
+    records: &mut [u32],
     h: Head,
     out: &mut [u8],
     at: usize,
@@ -165,19 +220,21 @@ fn answer_record(
     if got.count < n {
         return bad(out, at);
     }
-    lend(text, tokens, events, h, out, at)
+    lend(text, tokens, events, records, h, out, at)
 }
 
-// Reads a record and answers it.
+// Reads a record and answers it. Of the numbers before the text, one of the extended form has sixteen bytes behind the first twelve.
 fn turn(
     text: &mut [u8],
     tokens: &mut [u32],
     events: &mut [u32],
+    records: &mut [u32],
     out: &mut [u8],
     at: usize,
 ) -> Step {
-    let mut bytes = [0u8; 12];
-    let got = read_full(STDIN_FILENO, &mut bytes);
+    let mut front = [0u8; 16];
+    let mut back = [0u8; 16];
+    let got = read_full(STDIN_FILENO, &mut front[0..12]);
     if got.failed {
         return failed();
     }
@@ -187,7 +244,24 @@ fn turn(
     if got.count < 12 {
         return bad(out, at);
     }
-    answer_record(text, tokens, events, head_of(&bytes), out, at)
+    if is_extended(&front) {
+        let more = read_full(STDIN_FILENO, &mut back);
+        if more.failed {
+            return failed();
+        }
+        if more.count < 16 || !is_known(&front, &back) {
+            return bad(out, at);
+        }
+    }
+    answer_record(
+        text,
+        tokens,
+        events,
+        records,
+        head_of(&front, &back),
+        out,
+        at,
+    )
 }
 
 // Writes out the bytes that wait, and says whether that went well.
@@ -209,12 +283,18 @@ fn make_room(out: &[u8], at: usize) -> Step {
 
 // A proved loop has to end, and nothing says that the input does. So the loop counts its turns down, from a number that no run
 // uses up.
-fn turns(text: &mut [u8], tokens: &mut [u32], events: &mut [u32], out: &mut [u8]) -> usize {
+fn turns(
+    text: &mut [u8],
+    tokens: &mut [u32],
+    events: &mut [u32],
+    records: &mut [u32],
+    out: &mut [u8],
+) -> usize {
     let mut left = u64::MAX;
     let mut at = 0;
     let mut on = true;
     while left > 0 && on {
-        let t = turn(text, tokens, events, out, at);
+        let t = turn(text, tokens, events, records, out, at);
         let m = make_room(out, t.at);
         at = m.at;
         on = t.on && m.on;
@@ -225,7 +305,7 @@ fn turns(text: &mut [u8], tokens: &mut [u32], events: &mut [u32], out: &mut [u8]
 
 // Zeros, for the bytes that wait. The `ensures` gives the length too, which lending them asks for.
 fn waiting() -> [u8; OUT]
-    ensures { λ r. ⌜ (r ≡ replicate 1048576 0) × (1048576 ≡ length r) ⌝ }
+    ensures { λ r. ⌜ (r ≡ replicate 1703936 0) × (1703936 ≡ length r) ⌝ }
 {
     [0; OUT]
 }
@@ -234,7 +314,8 @@ fn main() {
     let mut text = [0u8; MOST];
     let mut tokens = [0u32; MOST];
     let mut events = [0u32; MOST];
+    let mut records = [0u32; RECORDS];
     let mut out = waiting();
-    let at = turns(&mut text, &mut tokens, &mut events, &mut out);
+    let at = turns(&mut text, &mut tokens, &mut events, &mut records, &mut out);
     flush(&out, at);
 }

@@ -1,13 +1,13 @@
 //! A run of both programs on many records: counts, and the first record on which they differ.
-use crate::programs::{answer, groups, Pair, Record, TOKENS_ONLY};
-use crate::source::Source;
+use crate::programs::{answer, groups, Form, Pair, Record, TOKENS_ONLY};
+use crate::source::{Call, Source};
 use std::time::Instant;
 use texts::families::Maker;
 
 #[derive(Default, Clone)]
 struct Count {
     texts: u64,
-    answers: [u64; 7],
+    answers: [u64; 8],
     differences: u64,
 }
 
@@ -15,7 +15,8 @@ fn show(pair: &Pair, names: &[&str], record: &Record) {
     let (theirs, ours) = pair.run(std::slice::from_ref(record));
     let events = if record.events == TOKENS_ONLY { "tokens only".to_string() } else { format!("{} event words", record.events) };
     println!("family: {}", names[record.family]);
-    println!("text: \"{}\" ({} bytes), {} token words, {}", record.text.escape_ascii(), record.text.len(), record.tokens, events);
+    let records = if let Form::Tree(words) = record.form { format!(", {words} record words") } else { String::new() };
+    println!("text: \"{}\" ({} bytes), {} token words, {}{}", record.text.escape_ascii(), record.text.len(), record.tokens, events, records);
     println!("oracle:\n{}replay:\n{}", String::from_utf8_lossy(&theirs), String::from_utf8_lossy(&ours));
 }
 
@@ -31,20 +32,20 @@ fn differences(pair: &Pair, records: &[Record], theirs: &[&[u8]], ours: &[&[u8]]
 }
 
 fn report(source: &Source, counts: &[Count]) {
-    let line = |name: &str, numbers: [String; 9], note: &str| {
+    let line = |name: &str, numbers: [String; 10], note: &str| {
         let numbers: String = numbers.iter().map(|n| format!("{:>9}", n)).collect();
         println!("{:<22}{}{}", name, numbers, note);
     };
-    line("family", ["texts", "read", "no. 1", "no. 2", "no. 3", "no. 4", "no. 5", "no. 6", "differ"].map(String::from), "");
+    line("family", ["texts", "read", "no. 1", "no. 2", "no. 3", "no. 4", "no. 5", "no. 6", "no. 7", "differ"].map(String::from), "");
     let mut sum = Count::default();
     for (i, count) in counts.iter().enumerate() {
-        let [read, a, b, c, d, e, f] = count.answers;
+        let [read, a, b, c, d, e, f, g] = count.answers;
         let every = match source.families.get(i).map(|f| &f.maker) {
             Some(Maker::Every(e)) if e.left() == 0 => " (all)".to_string(),
             Some(Maker::Every(e)) => format!(" (of {})", e.total()),
             _ => String::new(),
         };
-        let numbers = [count.texts, read, a, b, c, d, e, f, count.differences];
+        let numbers = [count.texts, read, a, b, c, d, e, f, g, count.differences];
         line(source.names[i], numbers.map(|n| n.to_string()), &every);
         sum.texts += count.texts;
         sum.differences += count.differences;
@@ -65,10 +66,10 @@ impl Run<'_> {
         for (record, group) in records.iter().zip(answers) {
             let count = &mut self.counts[record.family];
             count.texts += 1;
-            let Some([number, _, tokens, _, events]) = answer(group) else { continue };
-            count.answers[number.min(6)] += 1;
+            let Some([number, _, tokens, _, events, records]) = answer(group) else { continue };
+            count.answers[number.min(7)] += 1;
             match number {
-                0 => self.source.again(record, tokens, events),
+                0 => self.source.again(record, tokens, events, records),
                 6 => self.source.again_at_openers(record),
                 _ => {}
             }
@@ -101,9 +102,9 @@ impl Run<'_> {
     }
 }
 
-pub fn compare(total: u64, seed: u64, sections: bool, pair: &Pair) -> bool {
+pub fn compare(total: u64, seed: u64, call: Call, pair: &Pair) -> bool {
     let start = Instant::now();
-    let source = Source::new(seed, sections);
+    let source = Source::new(seed, call);
     let counts = vec![Count::default(); source.names.len()];
     let mut run = Run { pair, source, counts, first: None };
     let mut done = 0;

@@ -1,5 +1,5 @@
 //! Compares the program `replay` with the oracle on texts made here, or writes a sample of records with the oracle's answers.
-//!   compare run COUNT SEED tokens|sections ORACLE REPLAY
+//!   compare run COUNT SEED tokens|sections|trees ORACLE REPLAY
 //!   compare sample TOKENS SECTIONS ORACLE STDIN STDOUT
 //! tools/README.md says what a record is.
 mod comparison;
@@ -9,12 +9,12 @@ mod source;
 
 use comparison::compare;
 use programs::{records_bytes, Pair, Program};
-use samples::sample;
-use std::sync::Arc;
+use samples::{extended, sample};
+use source::Call;
 
 /// A user calls the scripts, which hand on what they are given.
 fn usage() -> ! {
-    eprintln!("tools/compare/run COUNT SEED tokens|sections [FOLDER]");
+    eprintln!("tools/compare/run COUNT SEED tokens|sections|trees [FOLDER]");
     eprintln!("tools/compare/sample TOKENS [SECTIONS [FOLDER]]");
     std::process::exit(2);
 }
@@ -31,17 +31,24 @@ fn main() {
     let args: Vec<String> = std::env::args().collect();
     let args: Vec<&str> = args.iter().skip(1).map(String::as_str).collect();
     match args[..] {
-        ["run", count, seed, mode @ ("tokens" | "sections"), oracle, replay] => {
+        ["run", count, seed, texts, oracle, replay] => {
             let pair = Pair { oracle: program("oracle", oracle), replay: program("replay", replay) };
-            let same = compare(number(count), number(seed), mode == "sections", &pair);
+            let call = match texts {
+                "tokens" => Call::Tokens,
+                "sections" => Call::Section,
+                "trees" => Call::Tree,
+                _ => usage(),
+            };
+            let same = compare(number(count), number(seed), call, &pair);
             std::process::exit(if same { 0 } else { 1 });
         }
         ["sample", tokens, sections, oracle, stdin, stdout] => {
+            let oracle = program("oracle", oracle);
             let mut records = sample(number(tokens), false);
             records.extend(sample(number(sections), true));
+            records.extend(extended(&oracle));
             let input = records_bytes(&records);
-            let (output, well) = program("oracle", oracle).run(Arc::new(input.clone()));
-            assert!(well, "the oracle did not end well");
+            let output = oracle.output(&records);
             std::fs::write(stdin, &input).expect("write");
             std::fs::write(stdout, &output).expect("write");
             println!("{} records, {} bytes of stdin, {} bytes of stdout", records.len(), input.len(), output.len());

@@ -3,11 +3,19 @@ use std::io::{Read, Write};
 use std::process::{Child, Command, Stdio};
 use std::sync::Arc;
 
-/// In the place of the number of lent event words: the tokens-only call.
+/// In the place of the number of lent event words: the tokens-only call. Elsewhere: the extended form, and the largest settings.
 pub const TOKENS_ONLY: u32 = u32::MAX;
 
 /// How often a text is tried without a part.
 const SMALLER_TRIES: usize = 4_000;
+
+/// A record's form: plain; or extended, for the same calls; or extended, for the tree call with so many record words.
+#[derive(Clone, Copy)]
+pub enum Form {
+    Plain,
+    Extended,
+    Tree(u32),
+}
 
 #[derive(Clone)]
 pub struct Record {
@@ -15,13 +23,20 @@ pub struct Record {
     pub text: Vec<u8>,
     pub tokens: u32,
     pub events: u32,
+    pub form: Form,
 }
 
 impl Record {
     fn write(&self, out: &mut Vec<u8>) {
-        out.extend_from_slice(&(self.text.len() as u32).to_le_bytes());
-        out.extend_from_slice(&self.tokens.to_le_bytes());
-        out.extend_from_slice(&self.events.to_le_bytes());
+        let plain = [self.text.len() as u32, self.tokens, self.events];
+        let [length, tokens, events] = plain;
+        let extended = |call, own| [TOKENS_ONLY, call, TOKENS_ONLY, length, tokens, events, own];
+        let mut put = |numbers: &[u32]| numbers.iter().for_each(|n| out.extend_from_slice(&n.to_le_bytes()));
+        match self.form {
+            Form::Plain => put(&plain),
+            Form::Extended => put(&extended(0, 0)),
+            Form::Tree(words) => put(&extended(1, words)),
+        }
         out.extend_from_slice(&self.text);
     }
 }
@@ -51,9 +66,11 @@ impl Program {
         })
     }
 
-    /// What it writes for some input, and whether it ended well.
-    pub fn run(&self, input: Arc<Vec<u8>>) -> (Vec<u8>, bool) {
-        output(self.start(), input)
+    /// What it writes for records.
+    pub fn output(&self, records: &[Record]) -> Vec<u8> {
+        let (output, well) = output(self.start(), Arc::new(records_bytes(records)));
+        assert!(well, "{} did not end well", self.name);
+        output
     }
 }
 
@@ -130,34 +147,30 @@ impl Pair {
     }
 }
 
-/// The four lines of each record.
+/// The lines of each record: from a line `answer` on, or a line that tells of a bad record.
 pub fn groups(output: &[u8]) -> Vec<&[u8]> {
     let mut groups = Vec::new();
-    let mut from = 0;
-    let mut lines = 0;
-    for (i, b) in output.iter().enumerate() {
-        if *b == b'\n' {
-            lines += 1;
-            if lines % 4 == 0 {
-                groups.push(&output[from..=i]);
-                from = i + 1;
-            }
+    let (mut from, mut at) = (0, 0);
+    for line in output.split_inclusive(|b| *b == b'\n') {
+        if from < at && (line.starts_with(b"answer") || line.starts_with(b"bad")) {
+            groups.push(&output[from..at]);
+            from = at;
         }
+        at += line.len();
     }
-    if from < output.len() {
-        groups.push(&output[from..]);
+    if from < at {
+        groups.push(&output[from..at]);
     }
     groups
 }
 
-/// The five numbers of an answer line.
-pub fn answer(group: &[u8]) -> Option<[usize; 5]> {
+/// The numbers of an answer line: five, and for the tree call that of the records; else 0.
+pub fn answer(group: &[u8]) -> Option<[usize; 6]> {
     let line = group.split(|b| *b == b'\n').next()?;
     let text = std::str::from_utf8(line).ok()?.strip_prefix("answer ")?;
-    let mut numbers = [0; 5];
-    let mut parts = text.split(' ');
-    for n in &mut numbers {
-        *n = parts.next()?.parse().ok()?;
+    let mut numbers: Vec<usize> = text.split(' ').map(|n| n.parse().ok()).collect::<Option<_>>()?;
+    if numbers.len() == 5 {
+        numbers.push(0);
     }
-    Some(numbers)
+    numbers.try_into().ok()
 }

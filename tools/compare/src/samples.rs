@@ -1,6 +1,6 @@
 //! A small mix of records, for a run on every check.
-use crate::programs::{Record, TOKENS_ONLY};
-use crate::source::Source;
+use crate::programs::{answer, groups, Form, Program, Record, TOKENS_ONLY};
+use crate::source::{Call, Source, RECORD};
 use texts::families::Maker;
 
 /// The texts that 01 names.
@@ -41,17 +41,18 @@ fn greatest() -> Vec<Record> {
         text: piece.repeat(n).into_bytes(),
         tokens,
         events: TOKENS_ONLY,
+        form: Form::Plain,
     };
     vec![make("x", 32_768, 1), make("x", 32_769, 2), make("+", 32_768, 32_768), make("+", 32_768, 32_767)]
 }
 
 /// A mix of all families, the texts that 01 names first and the longest ones last.
 pub fn sample(count: usize, sections: bool) -> Vec<Record> {
-    let mut source = Source::new(1, sections);
+    let mut source = Source::new(1, if sections { Call::Section } else { Call::Tokens });
     let mut records = Vec::new();
     for text in named_texts() {
         let (tokens, events) = (text.len() as u32, if sections { 8 * text.len() as u32 } else { TOKENS_ONLY });
-        records.push(Record { family: 0, text, tokens, events });
+        records.push(Record { family: 0, text, tokens, events, form: Form::Plain });
     }
     let end = if sections { Vec::new() } else { greatest() };
     while records.len() + end.len() < count {
@@ -64,9 +65,51 @@ pub fn sample(count: usize, sections: bool) -> Vec<Record> {
         let enough = text.len();
         let tokens = if sections { enough as u32 } else { source.lent(enough) };
         let events = if sections { source.lent(8 * enough) } else { TOKENS_ONLY };
-        records.push(Record { family: at, text, tokens, events });
+        records.push(Record { family: at, text, tokens, events, form: Form::Plain });
     }
     records.extend(end);
     records.truncate(count);
+    records
+}
+
+/// Texts whose trees have chains of forward parents, empty nodes or errors; and one that is no UTF-8.
+const TREES: [&[u8]; 9] = [
+    b"properties A => 1 + 2 * 3 - 4 + 5;",
+    b"properties A => 1 * 2 * 3 .. 4 + 5 delta 6;",
+    b"properties A => (1, (), [b => 2; c => ;]) in modes ();",
+    b"properties A => classifier (p::q.i (r => in data s, t => )) applies to x[1].y, ;",
+    b"properties -- note\n  A += > 1; end",
+    b"properties A => not (1 + -2) and true; B => ;",
+    b"properties A => 1 + ;",
+    b"properties A => [",
+    b"properties A => \xC3;",
+];
+
+/// Records of the extended form: of each text the section call and the tokens-only call; and the tree call with words in plenty, with no record word and with
+/// three. Then, by the oracle's answers, with exactly as many words, three more, one fewer and one record fewer; and with an event word or a token word too few.
+pub fn extended(oracle: &Program) -> Vec<Record> {
+    let texts = named_texts().into_iter().chain(TREES.map(<[u8]>::to_vec));
+    let (mut records, mut whole) = (Vec::new(), Vec::new());
+    for text in texts {
+        let bytes = text.len() as u32;
+        let plenty = Record { family: 0, text, tokens: bytes, events: 8 * bytes, form: Form::Tree(16 * bytes + 3) };
+        records.push(Record { form: Form::Extended, ..plenty.clone() });
+        records.push(Record { form: Form::Extended, events: TOKENS_ONLY, ..plenty.clone() });
+        records.extend([0, 3].map(|words| Record { form: Form::Tree(words), ..plenty.clone() }));
+        records.push(Record { events: TOKENS_ONLY, ..plenty.clone() });
+        whole.push(plenty);
+    }
+    let output = oracle.output(&whole);
+    for (record, group) in whole.iter().zip(groups(&output)) {
+        records.push(record.clone());
+        let [0, _, tokens, _, events, nodes] = answer(group).expect("an answer") else { continue };
+        let (tokens, events, exact) = (tokens as u32, events as u32, (RECORD * nodes) as u32);
+        let mut ask = |tokens, events, words| records.push(Record { tokens, events, form: Form::Tree(words), ..record.clone() });
+        for words in [exact, exact + 3, exact - 1, exact - RECORD as u32] {
+            ask(tokens, events, words);
+        }
+        ask(tokens, events - 1, exact);
+        ask(tokens - 1, events, exact);
+    }
     records
 }

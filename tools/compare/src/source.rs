@@ -1,11 +1,15 @@
 //! Where the records come from: texts of all families, with more or fewer words lent.
-use crate::programs::{Record, TOKENS_ONLY};
+use crate::programs::{Form, Record, TOKENS_ONLY};
 use texts::families::{self, Family, Maker};
 use texts::random::Rng;
 use texts::{lexer, sections};
 
-/// The most bytes or words of a sort that a record has.
+/// The most bytes, token words or event words that a record has, and the most record words.
 const MOST: usize = 40_000;
+const MOST_RECORDS: usize = 160_000;
+
+/// The words of a record of the tree call.
+pub const RECORD: usize = 4;
 
 /// One batch goes through one run of each program.
 const BATCH_RECORDS: usize = 20_000;
@@ -17,10 +21,18 @@ const LONG_ONCE_IN: usize = 4_000;
 /// Of the answered records, one in so many is asked again with exactly enough words, and with too few.
 const AGAIN_ONCE_IN: usize = 8;
 
+/// Which call is made.
+#[derive(Clone, Copy, PartialEq)]
+pub enum Call {
+    Tokens,
+    Section,
+    Tree,
+}
+
 pub struct Source {
     pub families: Vec<Family>,
     pub names: Vec<&'static str>,
-    sections: bool,
+    call: Call,
     pub rng: Rng,
     /// Records that an answer asked for.
     asked: Vec<Record>,
@@ -29,10 +41,10 @@ pub struct Source {
 const EXTRA: [&str; 3] = ["long texts", "many events", "word counts"];
 
 impl Source {
-    pub fn new(seed: u64, sections: bool) -> Source {
-        let families = if sections { families::sections() } else { families::tokens() };
+    pub fn new(seed: u64, call: Call) -> Source {
+        let families = if call == Call::Tokens { families::tokens() } else { families::sections() };
         let names = families.iter().map(|f| f.name).chain(EXTRA).collect();
-        Source { families, names, sections, rng: Rng::new(seed), asked: Vec::new() }
+        Source { families, names, call, rng: Rng::new(seed), asked: Vec::new() }
     }
 
     fn extra(&self, which: usize) -> usize {
@@ -59,7 +71,7 @@ impl Source {
         if self.rng.once_in(LONG_ONCE_IN) {
             return (self.extra(0), lexer::long(&mut self.rng));
         }
-        if self.sections && self.rng.once_in(LONG_ONCE_IN) {
+        if self.call != Call::Tokens && self.rng.once_in(LONG_ONCE_IN) {
             return (self.extra(1), sections::many_events(&mut self.rng));
         }
         let family = self.family();
@@ -72,48 +84,65 @@ impl Source {
 
     /// How many words to lend for a count that is enough: more, as many, or fewer.
     pub fn lent(&mut self, enough: usize) -> u32 {
-        let most = enough.min(MOST);
+        self.lent_within(enough, MOST)
+    }
+
+    fn lent_within(&mut self, enough: usize, bound: usize) -> u32 {
+        let most = enough.min(bound);
         let lent = match self.rng.below(8) {
             0 => self.rng.below(most + 1),
             1 => self.rng.below(2),
             2 => most,
             _ => most + self.rng.below(3),
         };
-        lent.min(MOST) as u32
+        lent.min(bound) as u32
     }
 
-    /// A new record. A text has no more tokens than bytes, and fewer events than eight for each token.
+    /// A new record. A text has no more tokens than bytes, and fewer events than eight for each token, two of them a node's.
     fn next(&mut self) -> Record {
         if let Some(record) = self.asked.pop() {
             return record;
         }
         let (family, text) = self.text();
-        let tokens = if self.sections { (text.len() + 1).min(MOST) as u32 } else { self.lent(text.len()) };
-        let events = if self.sections { self.lent(8 * text.len()) } else { TOKENS_ONLY };
-        Record { family, text, tokens, events }
+        let bytes = text.len();
+        let words = (bytes + 1).min(MOST) as u32;
+        let (tokens, events, form) = match self.call {
+            Call::Tokens => (self.lent(bytes), TOKENS_ONLY, Form::Plain),
+            Call::Section => (words, self.lent(8 * bytes), Form::Plain),
+            Call::Tree => (words, (8 * bytes).min(MOST) as u32, Form::Tree(self.lent_within(4 * RECORD * bytes, MOST_RECORDS))),
+        };
+        Record { family, text, tokens, events, form }
     }
 
     /// The same text with exactly as many words as the answer counts, and with fewer.
-    pub fn again(&mut self, record: &Record, tokens: usize, events: usize) {
+    pub fn again(&mut self, record: &Record, tokens: usize, events: usize, records: usize) {
         if record.family == self.extra(2) || !self.rng.once_in(AGAIN_ONCE_IN) {
             return;
         }
         let family = self.extra(2);
-        let mut ask = |t: usize, e: u32| {
-            let again = Record { family, text: record.text.clone(), tokens: t as u32, events: e };
-            self.asked.push(again);
-        };
-        if !self.sections {
-            ask(tokens, TOKENS_ONLY);
-            ask(tokens.saturating_sub(1), TOKENS_ONLY);
-            return;
+        let ask = |tokens: usize, events: u32, form: Form| Record { family, text: record.text.clone(), tokens: tokens as u32, events, form };
+        let fewer = |n: usize| n.saturating_sub(1);
+        match self.call {
+            Call::Tokens => {
+                self.asked.push(ask(tokens, TOKENS_ONLY, Form::Plain));
+                self.asked.push(ask(fewer(tokens), TOKENS_ONLY, Form::Plain));
+            }
+            Call::Section => {
+                self.asked.push(ask(tokens, events as u32, Form::Plain));
+                self.asked.push(ask(tokens, fewer(events) as u32, Form::Plain));
+                self.asked.push(ask(fewer(tokens), events as u32, Form::Plain));
+                let any = self.rng.below(events + 1) as u32;
+                self.asked.push(ask(tokens, any, Form::Plain));
+            }
+            Call::Tree => {
+                let exact = RECORD * records;
+                for words in [exact, exact + RECORD - 1, fewer(exact), self.rng.below(exact + 1)] {
+                    self.asked.push(ask(tokens, events as u32, Form::Tree(words as u32)));
+                }
+                self.asked.push(ask(tokens, fewer(events) as u32, Form::Tree(exact as u32)));
+                self.asked.push(ask(fewer(tokens), events as u32, Form::Tree(exact as u32)));
+            }
         }
-        let exact = events as u32;
-        ask(tokens, exact);
-        ask(tokens, exact.saturating_sub(1));
-        ask(tokens.saturating_sub(1), exact);
-        let fewer = self.rng.below(events + 1) as u32;
-        self.asked.push(Record { family, text: record.text.clone(), tokens: tokens as u32, events: fewer });
     }
 
     /// The same text with about as many event words as stand before the 65th opener, so that 5 or 6 comes first.
@@ -122,7 +151,7 @@ impl Source {
         if record.family != family {
             for _ in 0..4 {
                 let events = 120 + self.rng.below(360) as u32;
-                self.asked.push(Record { family, text: record.text.clone(), tokens: record.tokens, events });
+                self.asked.push(Record { family, events, ..record.clone() });
             }
         }
     }

@@ -1,43 +1,21 @@
-//! The oracle: for each record of standard input the four lines that 01 asks for, from the given Rust. The Rust has no limits and no
-//! refusals; this file puts 01's around it. tools/README.md says what a record is and what is written for one.
+//! The oracle: for each record of standard input the lines that 01 asks for, from the given Rust. The Rust has no limits, no refusals
+//! and no tree call; this program puts them around it. tools/README.md says what a record is and what is written for one.
+mod records;
+mod tree;
+
+use records::{next, write_record, Next, Reading, Record, Refusal, RECORD};
 use spar::event::Event;
 use spar::lexer::tokenize;
 use spar::parser::Parser;
 use spar::syntax_kind::SyntaxKind;
 use std::collections::HashMap;
-use std::io::{self, BufReader, BufWriter, ErrorKind, Read, Write};
+use std::io::{self, BufReader, BufWriter, Write};
+use tree::{nodes, Node};
 
 /// 01's limits.
 const MOST_BYTES: usize = 32_768;
 const MOST_EVENTS: usize = 32_768;
 const MOST_OPENERS: usize = 64;
-
-/// A record's limits, and what stands there for the tokens-only call.
-const MOST_IN_RECORD: u32 = 40_000;
-const TOKENS_ONLY: u32 = u32::MAX;
-
-struct Record {
-    text: Vec<u8>,
-    tokens: usize,
-    /// None for the tokens-only call.
-    events: Option<usize>,
-}
-
-enum Next {
-    Record(Record),
-    End,
-    Bad,
-}
-
-/// A refusal's number and place.
-struct Refusal(u32, usize);
-
-/// What a call that is not refused leaves: token words, tokens taken, event words.
-struct Reading {
-    tokens: Vec<u32>,
-    taken: usize,
-    events: Vec<u32>,
-}
 
 type Token = (SyntaxKind, usize);
 
@@ -142,8 +120,8 @@ fn tokens(record: &Record) -> Result<(&str, Vec<Token>), Refusal> {
     Ok((text, tokens))
 }
 
-/// The events of a section and how many tokens it takes, or one of the refusals 4 to 6.
-fn section(text: &str, tokens: &[Token], lent: usize) -> Result<(usize, Vec<Event>), Refusal> {
+/// The kind of a text's first non-trivia token; and where these start, then the text's length.
+fn places(tokens: &[Token]) -> (Option<SyntaxKind>, Vec<usize>) {
     let mut starts = Vec::new();
     let mut first = None;
     let mut at = 0;
@@ -155,6 +133,12 @@ fn section(text: &str, tokens: &[Token], lent: usize) -> Result<(usize, Vec<Even
         at += len;
     }
     starts.push(at);
+    (first, starts)
+}
+
+/// A section: how many tokens it takes, its events, and for the tree call its nodes; or one of the refusals 4 to 7.
+fn section(record: &Record, text: &str, tokens: &[Token], lent: usize) -> Result<(usize, Vec<Event>, Vec<Node>), Refusal> {
+    let (first, starts) = places(tokens);
     if first != Some(SyntaxKind::PROPERTIES_KW) {
         return Err(Refusal(4, starts[0]));
     }
@@ -162,98 +146,26 @@ fn section(text: &str, tokens: &[Token], lent: usize) -> Result<(usize, Vec<Even
     parser.run_property_section();
     let events = parser.finish();
     let taken = limits(&events, lent, &starts)?;
-    Ok((taken, events))
+    let Some(words) = record.records else { return Ok((taken, events, Vec::new())) };
+    let nodes = nodes(events.clone());
+    match nodes.get(words / RECORD) {
+        Some(node) => Err(Refusal(7, starts[node.first])),
+        None => Ok((taken, events, nodes)),
+    }
 }
 
 fn call(record: &Record, messages: &Messages) -> Result<Reading, Refusal> {
     let (text, tokens) = tokens(record)?;
-    let (taken, events) = match record.events {
-        None => (0, Vec::new()),
-        Some(lent) => section(text, &tokens, lent)?,
+    let (taken, events, nodes) = match record.events {
+        None => (0, Vec::new(), Vec::new()),
+        Some(lent) => section(record, text, &tokens, lent)?,
     };
     Ok(Reading {
         tokens: tokens.iter().map(|(kind, len)| *kind as u32 * 65_536 + *len as u32).collect(),
         taken,
         events: events.iter().map(|e| event_word(e, messages)).collect(),
+        records: nodes.iter().flat_map(Node::words).collect(),
     })
-}
-
-fn write_words(out: &mut Vec<u8>, name: &str, words: &[u32]) {
-    out.extend_from_slice(name.as_bytes());
-    for w in words {
-        out.push(b' ');
-        write_number(out, *w);
-    }
-    out.push(b'\n');
-}
-
-fn write_number(out: &mut Vec<u8>, number: u32) {
-    let mut digits = [0; 10];
-    let mut at = digits.len();
-    let mut left = number;
-    loop {
-        at -= 1;
-        digits[at] = b'0' + (left % 10) as u8;
-        left /= 10;
-        if left == 0 {
-            break;
-        }
-    }
-    out.extend_from_slice(&digits[at..]);
-}
-
-/// A refusal zeroes every lent word; otherwise the unused ones keep what they held.
-fn write_record(out: &mut Vec<u8>, record: &Record, answer: Result<Reading, Refusal>) {
-    let events = record.events.unwrap_or(0);
-    match answer {
-        Err(Refusal(number, place)) => {
-            write_words(out, "answer", &[number, place as u32, 0, 0, 0]);
-            out.extend_from_slice(b"tokens\nevents\n");
-            write_words(out, "rest", &[record.tokens as u32, events as u32]);
-        }
-        Ok(read) => {
-            let counts = [read.tokens.len(), read.taken, read.events.len()];
-            write_words(out, "answer", &[0, 0, counts[0] as u32, counts[1] as u32, counts[2] as u32]);
-            write_words(out, "tokens", &read.tokens);
-            write_words(out, "events", &read.events);
-            write_words(out, "rest", &[(record.tokens - counts[0]) as u32, (events - counts[2]) as u32]);
-        }
-    }
-}
-
-/// As many bytes as there are, up to the buffer's length.
-fn read_full(input: &mut impl Read, buf: &mut [u8]) -> usize {
-    let mut done = 0;
-    while done < buf.len() {
-        match input.read(&mut buf[done..]) {
-            Ok(0) => break,
-            Ok(n) => done += n,
-            Err(e) if e.kind() == ErrorKind::Interrupted => {}
-            Err(_) => break,
-        }
-    }
-    done
-}
-
-fn next(input: &mut impl Read) -> Next {
-    let mut head = [0; 12];
-    match read_full(input, &mut head) {
-        0 => return Next::End,
-        12 => {}
-        _ => return Next::Bad,
-    }
-    let number = |at: usize| u32::from_le_bytes([head[at], head[at + 1], head[at + 2], head[at + 3]]);
-    let (length, tokens, events) = (number(0), number(4), number(8));
-    let long = |n: u32| n > MOST_IN_RECORD;
-    if long(length) || long(tokens) || (events != TOKENS_ONLY && long(events)) {
-        return Next::Bad;
-    }
-    let mut text = vec![0; length as usize];
-    if read_full(input, &mut text) < text.len() {
-        return Next::Bad;
-    }
-    let events = if events == TOKENS_ONLY { None } else { Some(events as usize) };
-    Next::Record(Record { text, tokens: tokens as usize, events })
 }
 
 fn answer_all() -> io::Result<()> {

@@ -1,18 +1,16 @@
--- The name, five numbers, and LF (SpacedLaws). Assumes nothing.
+-- The name, and five numbers (SpacedLaws). Assumes nothing.
 use mathlib.Core.List.{[], _∷_}
 use Rattle.aadl.specs.Words.{bytes}
-use Rattle.writing.proofs.WriteLaws.{wrote-then}
-use Rattle.records.specs.Records.{line}
+use Rattle.records.specs.Records.{named-answer}
 use Rattle.records.proofs.SpacedLaws.{named, named-more}
 use borrow.Author.Needs.{needs}
 use Rattle.records.proofs.put_answer.Statement.{statement}
 use Rattle.records.proofs.put_answer.Tie as tie
 
 returns : tie.Need-returns
-unfolding line
+unfolding named-answer
 returns c =
-    let at-byte = c .before .before in
-    let at-events = at-byte .before .before .before .before in
+    let at-events = c .before .before in
     let at-taken = at-events .before .before .before .before in
     let at-tokens = at-taken .before .before .before .before in
     let at-place = at-tokens .before .before .before .before in
@@ -24,11 +22,10 @@ returns c =
     let w = named-more name (a .number ∷ []) (a .place) v (at-place .put-number2 .ensures) in
     let x = named-more name (a .number ∷ a .place ∷ []) (a .tokens) w (at-tokens .put-number3 .ensures) in
     let y = named-more name (a .number ∷ a .place ∷ a .tokens ∷ []) (a .taken) x (at-taken .put-number4 .ensures) in
-    let z = named-more name (a .number ∷ a .place ∷ a .tokens ∷ a .taken ∷ []) (a .events) y (at-events .put-number5 .ensures) in
-    wrote-then z (at-byte .put-byte .ensures)
+    named-more name (a .number ∷ a .place ∷ a .tokens ∷ a .taken ∷ []) (a .events) y (at-events .put-number5 .ensures)
 
 pub put-answer-spec : {M : Type 1} → statement M
 put-answer-spec =
     tie.close
     (tie.spec (λ c. search needs) (λ c κs. search needs) (λ c. search needs) (λ c κs. search needs) (λ c κs. search needs) (λ c κs. search needs) (λ c κs. search needs) (λ c κs. search needs)
-    (λ c κs. search needs) (λ c. search needs) returns)
+    (λ c. search needs) returns)

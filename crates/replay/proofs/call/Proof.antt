@@ -2,7 +2,7 @@
 use Prim.Native.Nat.{ℕ}
 use mathlib.Core.Path.{_≡_, refl, sym}
 use mathlib.Core.Bool.{Bool}
-use mathlib.Core.List.{List}
+use mathlib.Core.List.{List, []}
 use lib.ListN.{length, replicate, length-replicate}
 use Rattle.aadl.specs.Answers.{token-words, left-in}
 use Rattle.aadl.specs.declared.Answer.{Answer}
@@ -14,7 +14,7 @@ use Rattle.replay.proofs.call.Tie as tie
 
 module _ (only : Bool) (text : List ℕ) (m n : ℕ) (ts es : List ℕ) (f : ts ≡ replicate m old-word) (g : es ≡ replicate n old-word) where
   lines : (a : Answer) (us vs : List ℕ) → a ≡ answer-of only text (length ts) (length es) → us ≡ left-in a (token-words text) ts → vs ≡ events-left only a text es
-      → record-lines a us vs ≡ called only text m n
+      → record-lines a [] us vs ≡ called only text m n
   unfolding called
   lines a us vs h t e = rw (t, e, h, f, g, length-replicate m old-word, length-replicate n old-word) refl
 

@@ -1,0 +1,55 @@
+//! The nodes of the tree that the Rust's events spell, by 01's tree rule.
+use spar::event::Event;
+use spar::syntax_kind::SyntaxKind;
+
+/// A node: its kind, its parent's number, the first token it takes and how many stand below it. Nodes and non-trivia tokens count from
+/// 0, and the root is its own parent.
+pub struct Node {
+    kind: SyntaxKind,
+    parent: usize,
+    pub first: usize,
+    below: usize,
+}
+
+impl Node {
+    pub fn words(&self) -> [u32; 4] {
+        [self.kind as u32, self.parent as u32, self.first as u32, self.below as u32]
+    }
+}
+
+/// The kinds of a Start and of its forward parents, the innermost first. Each is taken away, so that it opens nothing again.
+fn chain(events: &mut [Event], start: usize) -> Vec<SyntaxKind> {
+    let mut kinds = Vec::new();
+    let mut at = start;
+    while let Event::Start { kind, forward_parent } = std::mem::replace(&mut events[at], Event::Tombstone) {
+        kinds.push(kind);
+        let Some(on) = forward_parent else { break };
+        at += on as usize;
+    }
+    kinds
+}
+
+/// The nodes in the order in which they open: a Start opens its forward parents first, the outermost of them before all.
+pub fn nodes(mut events: Vec<Event>) -> Vec<Node> {
+    let mut nodes: Vec<Node> = Vec::new();
+    let mut open: Vec<usize> = Vec::new();
+    let mut taken = 0;
+    for at in 0..events.len() {
+        match events[at] {
+            Event::Start { .. } => {
+                for kind in chain(&mut events, at).into_iter().rev() {
+                    let parent = open.last().copied().unwrap_or(0);
+                    open.push(nodes.len());
+                    nodes.push(Node { kind, parent, first: taken, below: 0 });
+                }
+            }
+            Event::Token { .. } => taken += 1,
+            Event::Finish => {
+                let node = &mut nodes[open.pop().expect("a Finish without a Start")];
+                node.below = taken - node.first;
+            }
+            Event::Error { .. } | Event::Tombstone => {}
+        }
+    }
+    nodes
+}
