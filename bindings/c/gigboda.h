@@ -4,7 +4,7 @@
  *
  *     cc -std=c99 -I bindings/c FILE.c target/staticlib/libcapi.a
  *
- * The library has three functions, and they are proved: crates/capi/src/lib.rt says what each leaves, for every text, every number of lent
+ * The library has four functions, and they are proved: crates/capi/src/lib.rt says what each leaves, for every text, every number of lent
  * words and whatever the words hold. All else is inline in this header, which needs gigboda_kinds.h beside it, and is tested, not proved
  * (bindings/c/test).
  *
@@ -23,7 +23,7 @@ extern "C" {
 #endif
 
 #define GIGBODA_VERSION_MAJOR 0
-#define GIGBODA_VERSION_MINOR 2
+#define GIGBODA_VERSION_MINOR 3
 #define GIGBODA_VERSION_PATCH 0
 #define GIGBODA_QUOTED_NUMBERS(major, minor, patch) #major "." #minor "." #patch
 #define GIGBODA_QUOTED(major, minor, patch) GIGBODA_QUOTED_NUMBERS(major, minor, patch)
@@ -31,9 +31,12 @@ extern "C" {
 
 /* The limits. A text has at most GIGBODA_MOST_BYTES bytes, and a token at least one: with as many token words no text is refused 3. Of the
  * event words at most GIGBODA_MOST_EVENTS are used: with as many a text is refused 5 only if its section has more events than that, and
- * more words do not help. `properties a=>` and 16,377 times `1,` is refused 5 whatever is lent. */
+ * more words do not help. `properties a=>` and 16,377 times `1,` is refused 5 whatever is lent. A node has two events, a Start and a Finish,
+ * and a record of GIGBODA_RECORD_WORDS words: with GIGBODA_MOST_NODES times as many record words no text is refused 7. */
 #define GIGBODA_MOST_BYTES 32768
 #define GIGBODA_MOST_EVENTS 32768
+#define GIGBODA_MOST_NODES (GIGBODA_MOST_EVENTS / 2)
+#define GIGBODA_RECORD_WORDS 4
 
 /* ---- Kinds ---- */
 
@@ -68,6 +71,12 @@ struct gigboda_answer {
     size_t events; /* how many event words are filled */
 };
 
+/* What the tree call answers. */
+struct gigboda_tree_answer {
+    struct gigboda_answer answer; /* the section call's, or a refusal 7 */
+    size_t records;               /* how many records are filled, one for each node; 0 in a refusal */
+};
+
 /* Why a text is refused, and what the place is then. */
 enum gigboda_refusal {
     GIGBODA_REFUSAL_NONE = 0,          /* not refused */
@@ -76,7 +85,9 @@ enum gigboda_refusal {
     GIGBODA_REFUSAL_NO_TOKEN_WORD = 3, /* more tokens than lent words; start of the first without one */
     GIGBODA_REFUSAL_NO_PROPERTIES = 4, /* the first token but trivia is not `properties`; its start, or the text's length */
     GIGBODA_REFUSAL_NO_EVENT_WORD = 5, /* no event word left; start of the next token not taken, or the text's length */
-    GIGBODA_REFUSAL_TOO_DEEP = 6       /* a 65th open `(`, `[`, `not` or sign; its start */
+    GIGBODA_REFUSAL_TOO_DEEP = 6,      /* a 65th open `(`, `[`, `not` or sign; its start */
+    GIGBODA_REFUSAL_NO_RECORD = 7      /* more nodes than lent records; start of the first token of the first without one, or of the token
+                                        * that comes next if it has none, or the text's length */
 };
 
 /* A refusal's number in words, those of docs/REFUSALS.md. */
@@ -90,6 +101,7 @@ static inline const char *gigboda_refusal_text(size_t number)
     case GIGBODA_REFUSAL_NO_PROPERTIES: return "the text does not begin with `properties`";
     case GIGBODA_REFUSAL_NO_EVENT_WORD: return "more events than the tool has room for";
     case GIGBODA_REFUSAL_TOO_DEEP: return "nested more than 64 deep";
+    case GIGBODA_REFUSAL_NO_RECORD: return "more nodes than the tool has room for";
     default: return "(no refusal)";
     }
 }
@@ -99,6 +111,10 @@ static inline const char *gigboda_refusal_text(size_t number)
 /* The section call. Of the answer's five numbers, in the struct's order, as many are written as are lent. */
 void gigboda_property_section(const char *text, size_t text_len, uint32_t *tokens, size_t tokens_len, uint32_t *events,
                               size_t events_len, size_t *answer, size_t answer_len);
+
+/* The tree call. Its answer has a sixth number, how many records are filled. */
+void gigboda_property_tree(const char *text, size_t text_len, uint32_t *tokens, size_t tokens_len, uint32_t *events, size_t events_len,
+                           uint32_t *records, size_t records_len, size_t *answer, size_t answer_len);
 
 /* The tokens-only call. */
 void gigboda_tokenize(const char *text, size_t text_len, uint32_t *tokens, size_t tokens_len, size_t *answer, size_t answer_len);
@@ -133,6 +149,23 @@ static inline struct gigboda_answer gigboda_read_section(const char *text, size_
     gigboda_property_section(text ? text : "", text_len, tokens ? tokens : &none[0], tokens_len, events ? events : &none[1],
                              events_len, numbers, 5);
     return gigboda_answer_of(numbers);
+}
+
+/* The tree call: what the section call does, and a record for each node of the tree into the first record words, four words each (see The
+ * tree in records, below). records_len counts words: a fourth of it are the lent records. The words behind the records stay as they were.
+ * A refusal (1 to 7) leaves every lent word 0. */
+static inline struct gigboda_tree_answer gigboda_read_tree(const char *text, size_t text_len, uint32_t *tokens, size_t tokens_len,
+                                                           uint32_t *events, size_t events_len, uint32_t *records, size_t records_len)
+{
+    size_t numbers[6] = {0, 0, 0, 0, 0, 0};
+    uint32_t none[3];
+    struct gigboda_tree_answer tree;
+
+    gigboda_property_tree(text ? text : "", text_len, tokens ? tokens : &none[0], tokens_len, events ? events : &none[1], events_len,
+                          records ? records : &none[2], records_len, numbers, 6);
+    tree.answer = gigboda_answer_of(numbers);
+    tree.records = numbers[5];
+    return tree;
 }
 
 /* The tokens-only call: the same without a section. It has the refusals 1 to 3, and answers 0 taken and 0 events. */
@@ -270,7 +303,7 @@ static inline int gigboda_is_clean(const struct gigboda_answer *answer, const ui
     return answer->events > 0 && errors == 0 && whole == answer->taken;
 }
 
-/* ---- The tree ----
+/* ---- The tree, step by step ----
  *
  *     struct gigboda_walk walk = gigboda_walk_of(&answer, tokens, events);
  *     struct gigboda_step step;
@@ -456,6 +489,122 @@ static inline int gigboda_walk_next(struct gigboda_walk *walk, struct gigboda_st
     default:
         return 0;
     }
+}
+
+/* ---- The tree in records ----
+ *
+ * The tree call leaves a record for each node, in the order in which the walk enters them: a node stands before those below it, and these
+ * stand right behind it. Nodes count from 0, the root. Tokens count from 0 too, spaces and comments left out. No events are needed to go
+ * from a node to its parent, to its children or to its text. A click on a byte of the text finds its node, and those around it, by
+ *
+ *     size_t node = gigboda_tree_innermost(&tree, records, gigboda_tree_token_at(&tree, tokens, place));
+ *
+ *     while (node < tree.records) {
+ *         ..
+ *         node = node == 0 ? tree.records : gigboda_record_of(records, node).parent;
+ *     }
+ *
+ * and the children of a node are
+ *
+ *     for (n = gigboda_tree_child(&tree, records, node, node); n < tree.records; n = gigboda_tree_child(&tree, records, node, n))
+ *         ..
+ */
+
+/* A node's record. */
+struct gigboda_record {
+    unsigned kind;
+    size_t parent; /* the node around it; the root's is the root, 0 */
+    size_t first;  /* its first token, or the next one that is not taken if it has none */
+    size_t below;  /* how many tokens it has, those of the nodes below it too */
+};
+
+/* The record of a node. It must be one of those that are filled. */
+static inline struct gigboda_record gigboda_record_of(const uint32_t *records, size_t node)
+{
+    struct gigboda_record record;
+
+    record.kind = records[GIGBODA_RECORD_WORDS * node];
+    record.parent = records[GIGBODA_RECORD_WORDS * node + 1];
+    record.first = records[GIGBODA_RECORD_WORDS * node + 2];
+    record.below = records[GIGBODA_RECORD_WORDS * node + 3];
+    return record;
+}
+
+/* The child of a node that comes next after another one, or the first one after the node itself; as many as there are records if there is
+ * none. It goes past what is below the child before, so all children together take the time of what is below the node. */
+static inline size_t gigboda_tree_child(const struct gigboda_tree_answer *tree, const uint32_t *records, size_t node, size_t after)
+{
+    size_t next;
+
+    for (next = after + 1; next < tree->records && gigboda_record_of(records, next).parent >= node; next++)
+        if (gigboda_record_of(records, next).parent == node)
+            return next;
+    return tree->records;
+}
+
+/* Whether a node is another one or stands below it, however deep. */
+static inline int gigboda_tree_is_within(const uint32_t *records, size_t node, size_t other)
+{
+    while (node > other) {
+        size_t parent = gigboda_record_of(records, node).parent;
+
+        if (parent >= node)
+            return 0; /* words that no call left */
+        node = parent;
+    }
+    return node == other;
+}
+
+/* The innermost node that has a token, or as many as there are records if none has it. It goes through the nodes up to the token. */
+static inline size_t gigboda_tree_innermost(const struct gigboda_tree_answer *tree, const uint32_t *records, size_t token)
+{
+    size_t found = tree->records, node;
+
+    for (node = 0; node < tree->records && gigboda_record_of(records, node).first <= token; node++)
+        if (token - gigboda_record_of(records, node).first < gigboda_record_of(records, node).below)
+            found = node;
+    return found;
+}
+
+/* The token at a byte of the text, spaces and comments left out; the next one for a byte between two, and as many as there are behind the
+ * last. */
+static inline size_t gigboda_tree_token_at(const struct gigboda_tree_answer *tree, const uint32_t *tokens, size_t place)
+{
+    size_t token = 0, end = 0, i;
+
+    for (i = 0; i < tree->answer.tokens; i++) {
+        end += gigboda_token_length(tokens[i]);
+        if (gigboda_is_trivia(tokens[i]))
+            continue;
+        if (place < end)
+            break;
+        token++;
+    }
+    return token;
+}
+
+/* The text of a node, from its first token to its last; that of a node without tokens is empty, where the next token starts or at the text's
+ * end. */
+static inline struct gigboda_part gigboda_tree_part(const struct gigboda_tree_answer *tree, const uint32_t *tokens,
+                                                    const uint32_t *records, size_t node)
+{
+    struct gigboda_record record = gigboda_record_of(records, node);
+    struct gigboda_part part = {0, 0};
+    size_t token = 0, end, i;
+
+    for (i = 0; i < tree->answer.tokens && (gigboda_is_trivia(tokens[i]) || token < record.first); i++) {
+        token += !gigboda_is_trivia(tokens[i]);
+        part.start += gigboda_token_length(tokens[i]);
+    }
+    end = part.start;
+    for (token = 0; i < tree->answer.tokens && token < record.below; i++) {
+        end += gigboda_token_length(tokens[i]);
+        if (!gigboda_is_trivia(tokens[i])) {
+            part.length = end - part.start;
+            token++;
+        }
+    }
+    return part;
 }
 
 #ifdef __cplusplus

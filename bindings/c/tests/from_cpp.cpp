@@ -9,6 +9,13 @@ static gigboda_answer read(const std::string &text, std::vector<uint32_t> &token
     return gigboda_read_section(text.data(), text.size(), tokens.data(), tokens.size(), events.data(), events.size());
 }
 
+static gigboda_tree_answer read_tree(const std::string &text, std::vector<uint32_t> &tokens, std::vector<uint32_t> &events,
+                                     std::vector<uint32_t> &records)
+{
+    return gigboda_read_tree(text.data(), text.size(), tokens.data(), tokens.size(), events.data(), events.size(), records.data(),
+                             records.size());
+}
+
 int main()
 {
     std::vector<uint32_t> tokens, events;
@@ -28,5 +35,15 @@ int main()
         if (step.sort == GIGBODA_STEP_ENTER)
             kinds += std::string(gigboda_kind_name(step.kind)) + ' ';
     std::puts(kinds.c_str());
-    return kinds == "PROPERTY_SECTION PROPERTY_ASSOCIATION PROPERTY_REF RANGE_VALUE INTEGER_VALUE INTEGER_VALUE " ? 0 : 3;
+    if (kinds != "PROPERTY_SECTION PROPERTY_ASSOCIATION PROPERTY_REF RANGE_VALUE INTEGER_VALUE INTEGER_VALUE ")
+        return 3;
+    std::vector<uint32_t> records;
+    if (read_tree(text, tokens, events, records).answer.number != GIGBODA_REFUSAL_NO_RECORD)
+        return 4;
+    records.resize(GIGBODA_MOST_NODES * GIGBODA_RECORD_WORDS);
+    gigboda_tree_answer tree = read_tree(text, tokens, events, records);
+    std::string same;
+    for (size_t node = 0; node < tree.records; node++)
+        same += std::string(gigboda_kind_name(gigboda_record_of(records.data(), node).kind)) + ' ';
+    return same == kinds ? 0 : 5;
 }

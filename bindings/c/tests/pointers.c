@@ -17,6 +17,13 @@ void gigboda_property_section(const char *text, size_t text_len, uint32_t *token
     look(text && tokens && events && tokens != events && answer && text_len + tokens_len + events_len == 0 && answer_len == 5);
 }
 
+void gigboda_property_tree(const char *text, size_t text_len, uint32_t *tokens, size_t tokens_len, uint32_t *events, size_t events_len,
+                           uint32_t *records, size_t records_len, size_t *answer, size_t answer_len)
+{
+    look(text && tokens && events && records && tokens != events && tokens != records && events != records && answer
+         && text_len + tokens_len + events_len + records_len == 0 && answer_len == 6);
+}
+
 void gigboda_tokenize(const char *text, size_t text_len, uint32_t *tokens, size_t tokens_len, size_t *answer, size_t answer_len)
 {
     look(text && tokens && answer && text_len + tokens_len == 0 && answer_len == 5);
@@ -31,8 +38,9 @@ void gigboda_token_text(const char *text, size_t text_len, const uint32_t *words
 int main(void)
 {
     gigboda_read_section(NULL, 0, NULL, 0, NULL, 0);
+    gigboda_read_tree(NULL, 0, NULL, 0, NULL, 0, NULL, 0);
     gigboda_read_tokens(NULL, 0, NULL, 0);
     gigboda_token_part(NULL, 0, NULL, 0, 0);
     printf("%d calls, %d with a pointer that must not be\n", calls, bad);
-    return calls != 3 || bad != 0;
+    return calls != 4 || bad != 0;
 }

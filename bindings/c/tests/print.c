@@ -2,6 +2,8 @@
  *
  *     print tables          the version; each kind, refusal and message in words
  *     print walks           for each section record of standard input the call's answer, and the steps through its tree
+ *     print trees           for each the tree call's answer, with half as many record words lent as event words where the record does not
+ *                           say how many; and each node's record, text, children, and the innermost node of its first token
  *
  * tools/README.md says what a record is; those of the tokens-only call are passed over. */
 #include "gigboda.h"
@@ -9,10 +11,11 @@
 #include <string.h>
 
 enum { MOST = 40000 }; /* of each number in a record */
-#define TOKENS_ONLY 4294967295u
+#define NONE 4294967295u /* the tokens-only call, the largest settings, or a record that says which call it asks for */
 
 static char text[MOST];
-static uint32_t tokens[MOST], events[MOST];
+static uint32_t tokens[MOST], events[MOST], records[GIGBODA_RECORD_WORDS * MOST];
+static uint32_t length, lent_tokens, lent_events, lent_records; /* of a record of standard input */
 
 static void print_tables(void)
 {
@@ -21,7 +24,7 @@ static void print_tables(void)
     printf("version %s\n", GIGBODA_VERSION);
     for (n = 0; n < GIGBODA_KIND_COUNT; n++)
         printf("kind %u %s\n", n, gigboda_kind_name(n));
-    for (n = GIGBODA_REFUSAL_TOO_LONG; n <= GIGBODA_REFUSAL_TOO_DEEP; n++)
+    for (n = GIGBODA_REFUSAL_TOO_LONG; n <= GIGBODA_REFUSAL_NO_RECORD; n++)
         printf("refusal %u %s\n", n, gigboda_refusal_text(n));
     for (n = GIGBODA_MESSAGE_NO_ARROW; n <= GIGBODA_MESSAGE_VIRTUAL_ALONE; n++)
         printf("message %u %s\n", n, gigboda_message_text(n));
@@ -45,7 +48,7 @@ static void print_steps(const struct gigboda_answer *answer)
     }
 }
 
-static void print_record(size_t length, uint32_t lent_tokens, uint32_t lent_events)
+static void print_walk(void)
 {
     struct gigboda_answer answer = gigboda_read_section(text, length, tokens, lent_tokens, events, lent_events);
     struct gigboda_position end = gigboda_position_of(text, length, length), at = gigboda_position_of(text, length, answer.place);
@@ -54,6 +57,32 @@ static void print_record(size_t length, uint32_t lent_tokens, uint32_t lent_even
     printf("%zu:%zu of %zu:%zu, %s\n", at.line, at.column, end.line, end.column,
            answer.number ? gigboda_refusal_text(answer.number) : gigboda_is_clean(&answer, tokens, events) ? "clean" : "not clean");
     print_steps(&answer);
+}
+
+static void print_node(const struct gigboda_tree_answer *tree, size_t node)
+{
+    struct gigboda_record record = gigboda_record_of(records, node);
+    struct gigboda_part part = gigboda_tree_part(tree, tokens, records, node);
+    size_t token = gigboda_tree_token_at(tree, tokens, part.start), child;
+
+    printf("%s %zu %zu %zu at %zu %zu in %zu:", gigboda_kind_name(record.kind), record.parent, record.first, record.below, part.start,
+           part.start + part.length, gigboda_tree_innermost(tree, records, token));
+    for (child = gigboda_tree_child(tree, records, node, node); child < tree->records;
+         child = gigboda_tree_child(tree, records, node, child))
+        printf(" %zu", child);
+    putchar('\n');
+}
+
+static void print_tree(void)
+{
+    struct gigboda_tree_answer tree =
+        gigboda_read_tree(text, length, tokens, lent_tokens, events, lent_events, records, lent_records);
+    size_t node;
+
+    printf("%zu %zu %zu %zu %zu %zu\n", tree.answer.number, tree.answer.place, tree.answer.tokens, tree.answer.taken, tree.answer.events,
+           tree.records);
+    for (node = 0; node < tree.records; node++)
+        print_node(&tree, node);
 }
 
 /* The record's next number, lowest byte first; 0 at the end. */
@@ -67,18 +96,35 @@ static int read_number(uint32_t *number)
     return 1;
 }
 
-static int print_walks(void)
+/* The record's other numbers and its text. */
+static int read_rest(void)
 {
-    uint32_t length, lent_tokens, lent_events;
+    uint32_t call = 0, settings = NONE;
+    int good;
 
+    if (length != NONE) {
+        good = read_number(&lent_tokens) && read_number(&lent_events);
+        lent_records = lent_events / 2;
+    } else {
+        good = read_number(&call) && read_number(&settings) && read_number(&length) && read_number(&lent_tokens)
+               && read_number(&lent_events) && read_number(&lent_records);
+        lent_records = call == 1 ? lent_records : lent_events / 2;
+    }
+    return good && call <= 1 && settings == NONE && length <= MOST && lent_tokens <= MOST
+           && (lent_events == NONE || (lent_events <= MOST && lent_records <= GIGBODA_RECORD_WORDS * MOST))
+           && fread(text, 1, length, stdin) == length;
+}
+
+/* Prints each section record of standard input. */
+static int print_all(void (*print_record)(void))
+{
     while (read_number(&length)) {
-        if (!read_number(&lent_tokens) || !read_number(&lent_events) || length > MOST || lent_tokens > MOST
-            || (lent_events > MOST && lent_events != TOKENS_ONLY) || fread(text, 1, length, stdin) != length) {
+        if (!read_rest()) {
             puts("bad record");
             return 1;
         }
-        if (lent_events != TOKENS_ONLY)
-            print_record(length, lent_tokens, lent_events);
+        if (lent_events != NONE)
+            print_record();
     }
     return ferror(stdin) || fflush(stdout) != 0;
 }
@@ -86,7 +132,9 @@ static int print_walks(void)
 int main(int count, char **arguments)
 {
     if (count == 2 && strcmp(arguments[1], "walks") == 0)
-        return print_walks();
+        return print_all(print_walk);
+    if (count == 2 && strcmp(arguments[1], "trees") == 0)
+        return print_all(print_tree);
     print_tables();
     return fflush(stdout) != 0;
 }

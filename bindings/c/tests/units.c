@@ -7,6 +7,7 @@
 
 static uint32_t tokens[GIGBODA_MOST_BYTES];
 static uint32_t events[2 * GIGBODA_MOST_EVENTS];
+static uint32_t records[GIGBODA_RECORD_WORDS * GIGBODA_MOST_NODES];
 static char text[GIGBODA_MOST_BYTES + 1];
 static char shown[1000];
 static int failures; /* of the test that runs */
@@ -34,10 +35,31 @@ static struct gigboda_answer read_enough(const char *section)
     return gigboda_read_section(section, strlen(section), tokens, GIGBODA_MOST_BYTES, events, GIGBODA_MOST_EVENTS);
 }
 
+static struct gigboda_tree_answer read_tree_of(const char *section, size_t lent_records)
+{
+    return gigboda_read_tree(section, strlen(section), tokens, GIGBODA_MOST_BYTES, events, GIGBODA_MOST_EVENTS, records, lent_records);
+}
+
 /* An answer's numbers in a row. */
 static const char *numbers(struct gigboda_answer answer)
 {
     sprintf(shown, "%zu %zu %zu %zu %zu", answer.number, answer.place, answer.tokens, answer.taken, answer.events);
+    return shown;
+}
+
+static const char *tree_numbers(struct gigboda_tree_answer tree)
+{
+    numbers(tree.answer);
+    sprintf(shown + strlen(shown), ", %zu", tree.records);
+    return shown;
+}
+
+/* A node's record in a row. */
+static const char *record(size_t node)
+{
+    struct gigboda_record r = gigboda_record_of(records, node);
+
+    sprintf(shown, "%s %zu %zu %zu", gigboda_kind_name(r.kind), r.parent, r.first, r.below);
     return shown;
 }
 
@@ -77,7 +99,8 @@ static void refusals_have_words(void)
 {
     CHECK_SAME(gigboda_refusal_text(GIGBODA_REFUSAL_NONE), "not refused");
     CHECK_SAME(gigboda_refusal_text(2), "the text is not UTF-8");
-    CHECK_SAME(gigboda_refusal_text(7), "(no refusal)");
+    CHECK_SAME(gigboda_refusal_text(GIGBODA_REFUSAL_NO_RECORD), "more nodes than the tool has room for");
+    CHECK_SAME(gigboda_refusal_text(8), "(no refusal)");
 }
 
 static void messages_have_words(void)
@@ -115,13 +138,84 @@ static void a_refusal_leaves_zeros(void)
     CHECK(tokens[0] == 0 && tokens[8] == 7 && events[0] == 0 && events[8] == 7);
 }
 
+static void the_tree_call_answers(void)
+{
+    const char *section = "properties\n  A => 1 ms;\n";
+
+    records[16] = 7;
+    CHECK_SAME(tree_numbers(read_tree_of(section, 17)), "0 0 11 6 14, 4");
+    CHECK(tokens[0] == 3932170 && events[1] == 20709377 && records[16] == 7);
+    CHECK_SAME(record(0), "PROPERTY_SECTION 0 0 6");
+    CHECK_SAME(record(1), "PROPERTY_ASSOCIATION 0 1 5");
+    CHECK_SAME(record(2), "PROPERTY_REF 1 1 1");
+    CHECK_SAME(record(3), "INTEGER_VALUE 1 3 2");
+}
+
+/* Whether so many words are 0, and the one behind them is 7. */
+static int is_zero_up_to(const uint32_t *words, size_t count)
+{
+    size_t i;
+
+    for (i = 0; i < count && words[i] == 0; i++)
+        ;
+    return i == count && words[count] == 7;
+}
+
+/* A refusal 7 at a place where so many record words are lent. */
+static void check_refused_7(const char *section, size_t lent, size_t place)
+{
+    struct gigboda_tree_answer tree;
+
+    memset(records, 255, sizeof records);
+    tokens[50] = events[50] = records[lent] = 7;
+    tree = gigboda_read_tree(section, strlen(section), tokens, 50, events, 50, records, lent);
+    sprintf(shown, "%zu record words are refused 7 at %zu", lent, place);
+    check(tree.answer.number == GIGBODA_REFUSAL_NO_RECORD && tree.answer.place == place, shown, __LINE__);
+    CHECK(tree.answer.tokens + tree.answer.taken + tree.answer.events + tree.records == 0);
+    CHECK(is_zero_up_to(tokens, 50) && is_zero_up_to(events, 50) && is_zero_up_to(records, lent));
+}
+
+/* Four words are a record and fewer are none: the place is that of the first node without one. */
+static void too_few_records_are_refused_7(void)
+{
+    static const size_t places[] = {1, 14, 14, 19};
+    const char *section = " properties\n  A => 1 ms;\n", *empty = "properties A=>1 applies to --";
+    size_t lent;
+
+    for (lent = 0; lent < 16; lent++)
+        check_refused_7(section, lent, places[lent / 4]);
+    for (lent = 16; lent < 20; lent++)
+        CHECK_SAME(tree_numbers(read_tree_of(section, lent)), "0 0 12 6 14, 4");
+    for (lent = 20; lent < 24; lent++)
+        check_refused_7(empty, lent, strlen(empty));
+    CHECK_SAME(tree_numbers(read_tree_of(empty, 24)), "0 0 11 6 19, 6");
+    CHECK_SAME(record(5), "CONTAINMENT_PATH 4 6 0");
+}
+
+/* The other refusals come first, and leave record words 0 too. */
+static void what_is_refused_1_to_6_is_not_refused_7(void)
+{
+    records[0] = records[2] = 7;
+    CHECK_SAME(tree_numbers(gigboda_read_tree("properties \377", 12, tokens, 8, events, 8, records, 2)), "2 11 0 0 0, 0");
+    CHECK(records[0] == 0 && records[2] == 7);
+    CHECK_SAME(tree_numbers(gigboda_read_tree("properties a", 12, tokens, 2, events, 8, records, 2)), "3 11 0 0 0, 0");
+    CHECK_SAME(tree_numbers(gigboda_read_tree("none;", 5, tokens, 2, events, 8, records, 2)), "4 0 0 0 0, 0");
+    CHECK_SAME(tree_numbers(gigboda_read_tree("properties", 10, tokens, 2, events, 2, records, 2)), "5 10 0 0 0, 0");
+    make_text("properties A=>", "+", 65, "1;");
+    CHECK_SAME(tree_numbers(read_tree_of(text, 2)), "6 78 0 0 0, 0");
+}
+
 /* As many of the answer's numbers are written as are lent. */
 static void the_librarys_functions_keep_to_what_is_lent(void)
 {
-    size_t answer[5] = {7, 7, 7, 7, 7};
+    size_t answer[7] = {7, 7, 7, 7, 7, 7, 7};
 
     gigboda_tokenize("a", 1, tokens, 1, answer, 3);
     CHECK(answer[0] == 0 && answer[1] == 0 && answer[2] == 1 && answer[3] == 7 && answer[4] == 7);
+    gigboda_property_tree("properties", 10, tokens, 1, events, 3, records, 4, answer, 5);
+    CHECK(answer[2] == 1 && answer[3] == 1 && answer[4] == 3 && answer[5] == 7);
+    gigboda_property_tree("properties", 10, tokens, 1, events, 3, records, 4, answer, 7);
+    CHECK(answer[4] == 3 && answer[5] == 1 && answer[6] == 7);
 }
 
 static void null_with_length_0_is_allowed(void)
@@ -136,6 +230,8 @@ static void null_with_length_0_is_allowed(void)
     CHECK(!gigboda_is_clean(&refused, NULL, NULL) && !gigboda_walk_next(&walk, &step));
     CHECK_SAME(numbers(gigboda_read_section("properties", 10, NULL, 0, NULL, 0)), "3 0 0 0 0");
     CHECK_SAME(numbers(gigboda_read_section("properties", 10, tokens, 1, NULL, 0)), "5 0 0 0 0");
+    CHECK_SAME(tree_numbers(gigboda_read_tree(NULL, 0, NULL, 0, NULL, 0, NULL, 0)), "4 0 0 0 0, 0");
+    CHECK_SAME(tree_numbers(gigboda_read_tree("properties", 10, tokens, 1, events, 3, NULL, 0)), "7 0 0 0 0, 0");
     CHECK_SAME(numbers(gigboda_read_tokens(NULL, 0, NULL, 0)), "0 0 0 0 0");
     CHECK_SAME(numbers(gigboda_read_tokens("a", 1, NULL, 0)), "3 0 0 0 0");
     CHECK(gigboda_position_of(NULL, 0, 3).column == 1);
@@ -207,7 +303,7 @@ static void what_is_clean(void)
     CHECK(!gigboda_is_clean(&only, tokens, events));
 }
 
-/* ---- The tree ---- */
+/* ---- The tree, step by step ---- */
 
 /* The tree of a text: a bracket and the kind for a node, the text for a token, a message's number. */
 static const char *shape(const char *section)
@@ -379,6 +475,144 @@ static void any_words_are_walked_to_an_end(void)
     CHECK(all > 5000);
 }
 
+/* ---- The tree in records ---- */
+
+/* Holds the records of what stands in `text` against the walk, which needs no memory: a node's parent is the last one open. */
+static void check_records(size_t length)
+{
+    struct gigboda_tree_answer tree = gigboda_read_tree(text, length, tokens, GIGBODA_MOST_BYTES, events, GIGBODA_MOST_EVENTS, records,
+                                                        GIGBODA_RECORD_WORDS * GIGBODA_MOST_NODES);
+    struct gigboda_walk walk = gigboda_walk_of(&tree.answer, tokens, events);
+    struct gigboda_step step;
+    size_t entered = 0, open = 0, taken = 0;
+    int same = 1;
+
+    while (gigboda_walk_next(&walk, &step)) {
+        if (step.sort == GIGBODA_STEP_ENTER) {
+            struct gigboda_record r = gigboda_record_of(records, entered);
+
+            same &= r.kind == step.kind && r.parent == open && r.first == taken;
+            open = entered++;
+        } else if (step.sort == GIGBODA_STEP_TOKEN) {
+            taken++;
+        } else if (step.sort == GIGBODA_STEP_LEAVE) {
+            struct gigboda_record r = gigboda_record_of(records, open);
+
+            same &= r.first + r.below == taken;
+            open = r.parent;
+        }
+    }
+    CHECK(tree.answer.number == 0 && entered == tree.records && same);
+}
+
+static void records_are_the_walks_nodes(void)
+{
+    check_records(make_text("properties", " A => -1 + 2 * (3, [b => not x .. 4;]) .. 5 delta 6 applies to ;", 3, ""));
+    check_records(make_text("properties", " A => 1 + + 2 ( ] B ::; C => 0x1F applies to ,", 3, ""));
+    check_records(make_text("properties a=>1", "+  1  ", 5458, ";"));
+    check_records(make_text("properties a=>1", "*", 8187, ";"));
+    check_records(make_text("properties a=>1 s,1 s,1 s", ",1", 8186, ";"));
+}
+
+/* The children of a node in a row, and whether those and no others stand below it. */
+static const char *children(const struct gigboda_tree_answer *tree, size_t node)
+{
+    char row[100] = "";
+    size_t n;
+
+    for (n = gigboda_tree_child(tree, records, node, node); n < tree->records; n = gigboda_tree_child(tree, records, node, n)) {
+        CHECK(gigboda_record_of(records, n).parent == node && gigboda_tree_is_within(records, n, node));
+        sprintf(row + strlen(row), " %zu", n);
+    }
+    return strcpy(shown, row);
+}
+
+static void nodes_have_children_and_parents(void)
+{
+    /* 0 section, 1 association, 2 its name, 3 range, 4 sum, 5 and 6 its ends, 7 the range's end, 8 association, 9 its name, 10 value */
+    struct gigboda_tree_answer tree = read_tree_of("properties A => 1 + 2 .. 3; B => 4;", 44);
+
+    CHECK(tree.records == 11);
+    CHECK_SAME(children(&tree, 0), " 1 8");
+    CHECK_SAME(children(&tree, 1), " 2 3");
+    CHECK_SAME(children(&tree, 3), " 4 7");
+    CHECK_SAME(children(&tree, 4), " 5 6");
+    CHECK_SAME(children(&tree, 7), "");
+    CHECK_SAME(children(&tree, 8), " 9 10");
+    CHECK_SAME(children(&tree, 10), "");
+    CHECK(gigboda_tree_is_within(records, 6, 6) && gigboda_tree_is_within(records, 6, 1) && gigboda_tree_is_within(records, 6, 0));
+    CHECK(!gigboda_tree_is_within(records, 6, 5) && !gigboda_tree_is_within(records, 1, 3) && !gigboda_tree_is_within(records, 9, 1));
+}
+
+/* The innermost node at a byte, and its text. */
+static const char *clicked(const char *section, const struct gigboda_tree_answer *tree, size_t place)
+{
+    size_t node = gigboda_tree_innermost(tree, records, gigboda_tree_token_at(tree, tokens, place));
+    struct gigboda_part part = {0, 0};
+
+    if (node < tree->records)
+        part = gigboda_tree_part(tree, tokens, records, node);
+    sprintf(shown, "%zu %.*s", node, (int)part.length, section + part.start);
+    return shown;
+}
+
+static void a_click_finds_its_node(void)
+{
+    const char *section = " properties\n  A => 1  ms ; -- all\n}";
+    struct gigboda_tree_answer tree = read_tree_of(section, 16);
+
+    CHECK_SAME(clicked(section, &tree, 0), "0 properties\n  A => 1  ms ;");
+    CHECK_SAME(clicked(section, &tree, 10), "0 properties\n  A => 1  ms ;");
+    CHECK_SAME(clicked(section, &tree, 11), "2 A");
+    CHECK_SAME(clicked(section, &tree, 14), "2 A");
+    CHECK_SAME(clicked(section, &tree, 16), "1 A => 1  ms ;");
+    CHECK_SAME(clicked(section, &tree, 19), "3 1  ms");
+    CHECK_SAME(clicked(section, &tree, 21), "3 1  ms");
+    CHECK_SAME(clicked(section, &tree, 24), "1 A => 1  ms ;");
+    CHECK_SAME(clicked(section, &tree, 26), "4 ");
+    CHECK_SAME(clicked(section, &tree, 99), "4 ");
+}
+
+/* An empty node's text is where the next token starts, or at the end. */
+static void empty_nodes_have_empty_text(void)
+{
+    struct gigboda_tree_answer tree = read_tree_of("properties A=>1 applies to  ; ", 24);
+    struct gigboda_part part = gigboda_tree_part(&tree, tokens, records, 5);
+
+    CHECK_SAME(record(5), "CONTAINMENT_PATH 4 6 0");
+    CHECK(part.start == 28 && part.length == 0);
+    tree = read_tree_of("properties A=>1 applies to", 24);
+    part = gigboda_tree_part(&tree, tokens, records, 5);
+    CHECK(part.start == 26 && part.length == 0);
+}
+
+/* Whatever the words are, the functions end and read nothing outside them (the sanitizer looks). */
+static void any_records_are_gone_through_to_an_end(void)
+{
+    size_t round, node;
+
+    for (round = 0; round < 5000; round++) {
+        struct gigboda_tree_answer tree = {{0, 0, 0, 0, 0}, 0};
+        uint32_t *some_tokens, *some_records;
+
+        tree.answer.tokens = round % 7;
+        tree.records = 1 + round % 13;
+        some_tokens = any_words(tree.answer.tokens, 6, 65536);
+        some_records = any_words(GIGBODA_RECORD_WORDS * tree.records, 1, 8);
+        for (node = 0; node < tree.records; node++) {
+            size_t child = gigboda_tree_child(&tree, some_records, node, node);
+
+            CHECK(child > node && child <= tree.records);
+            CHECK(!gigboda_tree_is_within(some_records, node, node + 1) && gigboda_tree_is_within(some_records, node, node));
+            CHECK(gigboda_tree_innermost(&tree, some_records, node) <= tree.records);
+            CHECK(gigboda_tree_part(&tree, some_tokens, some_records, node).length <= 7 * 7);
+            gigboda_tree_is_within(some_records, node, 0);
+        }
+        free(some_tokens);
+        free(some_records);
+    }
+}
+
 /* ---- All of them ---- */
 
 #define TEST(name) {#name, name}
@@ -392,6 +626,9 @@ static const struct {
     TEST(messages_have_words),
     TEST(the_calls_answer),
     TEST(a_refusal_leaves_zeros),
+    TEST(the_tree_call_answers),
+    TEST(too_few_records_are_refused_7),
+    TEST(what_is_refused_1_to_6_is_not_refused_7),
     TEST(the_librarys_functions_keep_to_what_is_lent),
     TEST(null_with_length_0_is_allowed),
     TEST(with_most_bytes_token_words_no_text_is_refused_3),
@@ -404,6 +641,11 @@ static const struct {
     TEST(long_chains_take_little_time),
     TEST(deep_nests_take_little_time),
     TEST(any_words_are_walked_to_an_end),
+    TEST(records_are_the_walks_nodes),
+    TEST(nodes_have_children_and_parents),
+    TEST(a_click_finds_its_node),
+    TEST(empty_nodes_have_empty_text),
+    TEST(any_records_are_gone_through_to_an_end),
 };
 
 int main(void)

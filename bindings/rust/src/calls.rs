@@ -13,6 +13,18 @@ extern "C" {
         answer: *mut usize,
         answer_len: usize,
     );
+    fn gigboda_property_tree(
+        text: *const u8,
+        text_len: usize,
+        tokens: *mut u32,
+        tokens_len: usize,
+        events: *mut u32,
+        events_len: usize,
+        records: *mut u32,
+        records_len: usize,
+        answer: *mut usize,
+        answer_len: usize,
+    );
     fn gigboda_tokenize(text: *const u8, text_len: usize, tokens: *mut u32, tokens_len: usize, answer: *mut usize, answer_len: usize);
     fn gigboda_token_text(
         text: *const u8,
@@ -39,6 +51,27 @@ pub fn section(text: &[u8], tokens: &mut [u32], events: &mut [u32]) -> Answer {
             tokens.len(),
             events.as_mut_ptr(),
             events.len(),
+            answer.as_mut_ptr(),
+            answer.len(),
+        )
+    }
+    answer
+}
+
+/// An answer's numbers, and then how many records there are.
+pub fn tree(text: &[u8], tokens: &mut [u32], events: &mut [u32], records: &mut [u32]) -> [usize; 6] {
+    let mut answer = [0; 6];
+    // As above.
+    unsafe {
+        gigboda_property_tree(
+            text.as_ptr(),
+            text.len(),
+            tokens.as_mut_ptr(),
+            tokens.len(),
+            events.as_mut_ptr(),
+            events.len(),
+            records.as_mut_ptr(),
+            records.len(),
             answer.as_mut_ptr(),
             answer.len(),
         )

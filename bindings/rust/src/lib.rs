@@ -2,6 +2,9 @@
 //! calls are proved; this crate hands them slices and takes their words apart, which is tested. It has no dependencies but the static library
 //! that `rt staticlib capi` writes, where build.rs finds it; a Cargo.toml names it by its folder, `gigboda = { path = "bindings/rust" }`.
 //!
+//! A section's tree is gone through step by step with [`Section::nodes`]; a [`Tree`] has a record for each node, from which its parent, its
+//! children and its text are found without the events.
+//!
 //! ```
 //! use gigboda::Node;
 //!
@@ -31,6 +34,7 @@ mod messages;
 mod nodes;
 mod places;
 mod refusals;
+mod tree;
 
 pub use kinds::Kind;
 pub use messages::Message;
@@ -38,6 +42,7 @@ pub use nodes::{Node, Nodes, Step};
 pub use places::{position, Position};
 pub use refusals::{Refusal, Refused};
 use std::ops::Range;
+pub use tree::{Mistake, Record, Tree};
 
 /// Most bytes of a text. A token has at least one: with as many token words no text is refused 3.
 pub const MOST_BYTES: usize = 32_768;
@@ -45,6 +50,9 @@ pub const MOST_BYTES: usize = 32_768;
 /// Most event words that are used. With as many a text is refused 5 only if its section has more events than that, and more words do not
 /// help: `properties a=>` and 16,377 times `1,` is refused 5 whatever is lent.
 pub const MOST_EVENTS: usize = 32_768;
+
+/// Most nodes of a tree: each has two events, a Start and a Finish. With [`Tree::RECORD`] times as many record words no text is refused 7.
+pub const MOST_NODES: usize = MOST_EVENTS / 2;
 
 /// A token: its kind, and where it stands in the text.
 #[derive(Debug, Clone, PartialEq, Eq)]
@@ -116,6 +124,28 @@ pub fn property_section<'a>(text: &'a [u8], tokens: &'a mut [u32], events: &'a m
     let [number, place, count, taken, pushed] = calls::section(text, tokens, events);
     refused(number, place)?;
     Ok(Section { text, token_words: &tokens[..count], event_words: &events[..pushed], taken })
+}
+
+/// Reads a property section as [`property_section`] does, and its tree: a record for each node into lent words, four words each. Words that
+/// are not filled stay as they were. A refusal leaves all of them 0.
+///
+/// ```
+/// let (mut tokens, mut events, mut records) = ([7; 32], [7; 32], [7; 16]);
+/// let tree = gigboda::property_tree(b"properties none;", &mut tokens, &mut events, &mut records).unwrap();
+/// assert_eq!((tree.len(), tree.range(0)), (1, 0..16));
+/// let refused = gigboda::property_tree(b"properties A => 1;", &mut tokens, &mut events, &mut records[..15]).unwrap_err();
+/// assert_eq!(refused.to_string(), "more nodes than the tool has room for (refusal 7 at byte 16)");
+/// ```
+pub fn property_tree<'a>(
+    text: &'a [u8],
+    tokens: &'a mut [u32],
+    events: &'a mut [u32],
+    records: &'a mut [u32],
+) -> Result<Tree<'a>, Refused> {
+    let [number, place, count, taken, pushed, nodes] = calls::tree(text, tokens, events, records);
+    refused(number, place)?;
+    let section = Section { text, token_words: &tokens[..count], event_words: &events[..pushed], taken };
+    Ok(Tree { section, record_words: &records[..Tree::RECORD * nodes] })
 }
 
 /// The text of a token by its number, from 0: a part of the text, or the empty part if there is no such word or the lengths up to it

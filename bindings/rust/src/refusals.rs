@@ -17,13 +17,15 @@ pub enum Refusal {
     NoEventWord = 5,
     /// A 65th open `(`, `[`, `not` or sign; the place is its start.
     TooDeep = 6,
+    /// More nodes than lent records; the place is the start of the token that the first without one names, or the text's length.
+    NoRecord = 7,
 }
 
 impl Refusal {
     /// All refusals, by number.
-    pub const ALL: [Refusal; 6] = {
+    pub const ALL: [Refusal; 7] = {
         use Refusal::*;
-        [TooLong, NotUtf8, NoTokenWord, NoProperties, NoEventWord, TooDeep]
+        [TooLong, NotUtf8, NoTokenWord, NoProperties, NoEventWord, TooDeep, NoRecord]
     };
 
     /// The refusal with a number, if there is one.
@@ -46,6 +48,7 @@ impl fmt::Display for Refusal {
             Refusal::NoProperties => "the text does not begin with `properties`",
             Refusal::NoEventWord => "more events than the tool has room for",
             Refusal::TooDeep => "nested more than 64 deep",
+            Refusal::NoRecord => "more nodes than the tool has room for",
         })
     }
 }

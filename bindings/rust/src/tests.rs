@@ -99,6 +99,40 @@ fn what_is_refused() {
 }
 
 #[test]
+fn too_few_records_are_refused() {
+    let call = |text: &[u8], t: usize, e: usize, r: usize| {
+        let (mut tokens, mut events, mut records) = (vec![1; t], vec![1; e], vec![1; r]);
+        let refused = property_tree(text, &mut tokens, &mut events, &mut records).map(|_| ()).expect_err("refused");
+        assert!(tokens.iter().chain(&events).chain(&records).all(|w| *w == 0));
+        refused
+    };
+    let at = |refusal, place| Refused { refusal, place };
+    let text = b" properties A => 1 applies to ";
+    assert_eq!(call(text, 30, 30, 0), at(Refusal::NoRecord, 1));
+    assert_eq!(call(text, 30, 30, 3), at(Refusal::NoRecord, 1));
+    assert_eq!(call(text, 30, 30, 4), at(Refusal::NoRecord, 12));
+    assert_eq!(call(text, 30, 30, 15), at(Refusal::NoRecord, 17));
+    assert_eq!(call(text, 30, 30, 23), at(Refusal::NoRecord, text.len()));
+    assert_eq!(call(text, 30, 3, 3), at(Refusal::NoEventWord, 12));
+    assert_eq!(call(b"none;", 2, 0, 0), at(Refusal::NoProperties, 0));
+}
+
+/// The last two messages stand at one place, with an empty node between them.
+#[test]
+fn messages_stand_in_the_tree() {
+    let (mut tokens, mut events, mut records) = ([0; 32], [0; 64], [0; 64]);
+    let tree = property_tree(b"properties A 1 + applies", &mut tokens, &mut events, &mut records).expect("not refused");
+    let told: Vec<_> = tree.errors().map(|m| (m.message.number(), tree.node(m.node).kind, m.nodes, m.tokens, m.place)).collect();
+    let wanted = [
+        (1, Kind::PROPERTY_ASSOCIATION, 3, 2, 13),
+        (5, Kind::BINARY_EXPR, 5, 4, 17),
+        (341, Kind::APPLIES_TO, 6, 5, 24),
+        (261, Kind::PROPERTY_ASSOCIATION, 7, 5, 24),
+    ];
+    assert_eq!(told, wanted);
+}
+
+#[test]
 fn the_text_of_each_token() {
     let text = b"properties A => 1 ms;";
     let mut words = [9; 16];
@@ -163,6 +197,8 @@ fn how_many_words_are_enough() {
     assert_eq!(refused(&long, MOST_BYTES, 4 * MOST_EVENTS), Err(Refusal::NoEventWord));
     let full = format!("properties a=>1 s,1 s,1 s{};", ",1".repeat(8_186));
     assert_eq!(refused(&full, MOST_BYTES, MOST_EVENTS), Ok(MOST_EVENTS));
+    let (mut tokens, mut events, mut records) = (vec![0; MOST_BYTES], vec![0; MOST_EVENTS], vec![0; Tree::RECORD * MOST_NODES]);
+    assert!(property_tree(full.as_bytes(), &mut tokens, &mut events, &mut records).is_ok());
 }
 
 #[test]

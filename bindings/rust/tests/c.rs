@@ -1,11 +1,12 @@
-//! The C header against this crate: the same tables, and the same steps through the trees of the kept sections and of made ones. The two
-//! walk in different ways: the header without memory, this crate with a list of the Starts that were used. cc builds
-//! bindings/c/tests/print.c.
+//! The C header against this crate: the same tables, and the same steps through the trees of the kept sections and of made ones, and what the
+//! trees' records say. The two walk in different ways: the header without memory, this crate with a list of the Starts that were used. cc
+//! builds bindings/c/tests/print.c.
 mod files;
+mod made;
 mod records;
 
-use gigboda::{position, property_section, Kind, Message, Node, Position, Refusal, Section, Step};
-use records::{records, Record, TOKENS_ONLY};
+use gigboda::{position, property_section, property_tree, Kind, Message, Node, Position, Refusal, Section, Step, Tree};
+use records::{records, Record};
 use std::fmt::Write as _;
 use std::io::Write as _;
 use std::path::PathBuf;
@@ -80,8 +81,8 @@ fn section_lines(section: &Section) -> String {
     section.nodes().fold(first, |lines, step| lines + &step_line(step))
 }
 
-/// What the C program prints for a record.
-fn record_lines(record: &Record) -> String {
+/// What the C program prints for a record's walk.
+fn walk_lines(record: &Record) -> String {
     let (mut tokens, mut events) = (vec![0; record.tokens as usize], vec![0; record.events as usize]);
     match property_section(record.text, &mut tokens, &mut events) {
         Ok(section) => section_lines(&section),
@@ -93,23 +94,33 @@ fn record_lines(record: &Record) -> String {
     }
 }
 
-/// Records of texts from words in any order, mostly those that make chains and openers.
-fn made() -> Vec<u8> {
-    let words = [
-        "1", "2 ms", "a", "a::b", "1.5", "\"s\"", "+", "*", "-", "/", "..", "delta", "not", "(", ")", "[", "]", "[b =>", "; ]", ",", ";",
-        ";\nA =>", "in modes (m)", "applies to x.y[1]", "classifier (p::q (r => in data s))", "reference (x)", "0x1F", "-- note\n", "ä",
-    ];
-    let mut state = 7_u64;
-    let mut any = move |below: usize| {
-        state = state.wrapping_mul(6_364_136_223_846_793_005).wrapping_add(1_442_695_040_888_963_407);
-        (state >> 33) as usize % below
-    };
-    let mut bytes = Vec::new();
-    for _ in 0..MADE {
-        let mut text = String::from("properties A =>");
-        for _ in 0..any(60) {
-            text = text + " " + words[any(words.len())];
+fn node_line(tree: &Tree, node: usize) -> String {
+    let (record, range) = (tree.node(node), tree.range(node));
+    let innermost = tree.innermost(tree.token_at(range.start)).unwrap_or(tree.len());
+    let numbers = format!("{} {} {} {} at {} {}", record.kind, record.parent, record.first, record.below, range.start, range.end);
+    let children: String = tree.children(node).map(|child| format!(" {child}")).collect();
+    format!("{numbers} in {innermost}:{children}\n")
+}
+
+/// What the C program prints for a record's tree.
+fn tree_lines(record: &Record) -> String {
+    let lent = if record.call == 1 { record.records } else { record.events / 2 };
+    let (mut tokens, mut events) = (vec![0; record.tokens as usize], vec![0; record.events as usize]);
+    let mut records = vec![0; lent as usize];
+    match property_tree(record.text, &mut tokens, &mut events, &mut records) {
+        Ok(tree) => {
+            let Section { token_words, taken, event_words, .. } = tree.section;
+            let first = format!("0 0 {} {taken} {} {}\n", token_words.len(), event_words.len(), tree.len());
+            (0..tree.len()).fold(first, |lines, node| lines + &node_line(&tree, node))
         }
+        Err(refused) => format!("{} {} 0 0 0 0\n", refused.refusal.number(), refused.place),
+    }
+}
+
+/// The kept records, and records of made texts.
+fn input() -> Vec<u8> {
+    let mut bytes = files::bytes("crates/replay/stdin");
+    for text in made::texts(MADE) {
         for number in [text.len() as u32, 2_000, 2_000] {
             bytes.extend(number.to_le_bytes());
         }
@@ -118,14 +129,23 @@ fn made() -> Vec<u8> {
     bytes
 }
 
+/// Holds what the C program prints for all sections against the lines for each.
+fn the_same_for_sections(name: &str, what: &str, lines: fn(&Record) -> String) {
+    let input = input();
+    let all = records(&input);
+    let sections: Vec<&Record> = all.iter().filter(|record| record.is_section()).collect();
+    let ours: String = sections.iter().map(|record| lines(record)).collect();
+    same_lines(&ours, &c_prints(name, what, input.clone()));
+    assert!(sections.len() >= 1_500 + MADE, "only {} sections", sections.len());
+    println!("{} sections, {what}: the same {} lines", sections.len(), ours.lines().count());
+}
+
 #[test]
 fn the_same_walks() {
-    let mut input = files::bytes("crates/replay/stdin");
-    input.extend(made());
-    let all = records(&input);
-    let sections: Vec<&Record> = all.iter().filter(|record| record.events != TOKENS_ONLY).collect();
-    let ours: String = sections.iter().map(|record| record_lines(record)).collect();
-    same_lines(&ours, &c_prints("print_walks", "walks", input.clone()));
-    assert!(sections.len() >= 1_500 + MADE, "only {} sections", sections.len());
-    println!("{} sections walked to the same {} lines", sections.len(), ours.lines().count());
+    the_same_for_sections("print_walks", "walks", walk_lines);
+}
+
+#[test]
+fn the_same_trees() {
+    the_same_for_sections("print_trees", "trees", tree_lines);
 }

@@ -2,52 +2,44 @@
 mod files;
 mod records;
 
-use gigboda::{property_section, tokenize, Refused};
-use records::{records, Record, TOKENS_ONLY};
-use std::fmt::Write;
+use gigboda::{property_section, property_tree, tokenize, Refused, Tree};
+use records::{records, Record};
+use std::fmt::Display;
 
 /// What every lent word holds before a call.
 const OLD: u32 = 2_779_096_485;
 
-fn line(name: &str, words: &[u32]) -> String {
-    let mut out = String::from(name);
-    for w in words {
-        write!(out, " {w}").expect("a string");
+fn line<N: Display>(name: &str, numbers: &[N]) -> String {
+    let numbers: String = numbers.iter().map(|n| format!(" {n}")).collect();
+    format!("{name}{numbers}\n")
+}
+
+/// What a record's call fills: token words, tokens taken, event words, record words.
+fn called(record: &Record, tokens: &mut [u32], events: &mut [u32], words: &mut [u32]) -> Result<[usize; 4], Refused> {
+    if record.call == 1 {
+        let Tree { section, record_words } = property_tree(record.text, tokens, events, words)?;
+        Ok([section.token_words.len(), section.taken, section.event_words.len(), record_words.len()])
+    } else if record.is_section() {
+        let section = property_section(record.text, tokens, events)?;
+        Ok([section.token_words.len(), section.taken, section.event_words.len(), 0])
+    } else {
+        Ok([tokenize(record.text, tokens)?.len(), 0, 0, 0])
     }
-    out + "\n"
-}
-
-/// How many words at the end hold what they held before.
-fn untouched(words: &[u32], filled: usize) -> u32 {
-    words[filled..].iter().filter(|w| **w == OLD).count() as u32
-}
-
-fn zeros(words: &[u32]) -> u32 {
-    words.iter().filter(|w| **w == 0).count() as u32
-}
-
-fn refused_lines(r: Refused, tokens: &[u32], events: &[u32]) -> String {
-    let answer = [r.refusal.number() as u32, r.place as u32, 0, 0, 0];
-    line("answer", &answer) + "tokens\nevents\n" + &line("rest", &[zeros(tokens), zeros(events)])
 }
 
 fn lines(record: &Record) -> String {
-    let only = record.events == TOKENS_ONLY;
     let mut tokens = vec![OLD; record.tokens as usize];
-    let mut events = vec![OLD; if only { 0 } else { record.events as usize }];
-    let counts = if only {
-        tokenize(record.text, &mut tokens).map(|t| (t.len(), 0, 0))
-    } else {
-        property_section(record.text, &mut tokens, &mut events).map(|s| (s.token_words.len(), s.taken, s.event_words.len()))
-    };
-    match counts {
-        Err(r) => refused_lines(r, &tokens, &events),
-        Ok((t, taken, e)) => {
-            line("answer", &[0, 0, t as u32, taken as u32, e as u32])
-                + &line("tokens", &tokens[..t])
-                + &line("events", &events[..e])
-                + &line("rest", &[untouched(&tokens, t), untouched(&events, e)])
-        }
+    let mut events = vec![OLD; if record.is_section() { record.events as usize } else { 0 }];
+    let mut words = vec![OLD; record.records as usize];
+    let answer = called(record, &mut tokens, &mut events, &mut words);
+    let [t, taken, e, r] = answer.unwrap_or([0; 4]);
+    let (number, place, left) = answer.map_or_else(|r| (r.refusal.number(), r.place, 0), |_| (0, 0, OLD));
+    let rest = |words: &[u32], filled: usize| words[filled..].iter().filter(|w| **w == left).count();
+    let numbers = [number, place, t, taken, e, r / Tree::RECORD];
+    let section = line("tokens", &tokens[..t]) + &line("events", &events[..e]) + &line("rest", &[rest(&tokens, t), rest(&events, e)]);
+    match record.call {
+        1 => line("answer", &numbers) + &section + &line("more", &words[..r]) + &line("left", &[rest(&words, r)]),
+        _ => line("answer", &numbers[..5]) + &section,
     }
 }
 
@@ -57,8 +49,9 @@ fn every_kept_answer() {
     let mut wanted = std::str::from_utf8(&answers).expect("lines").split_inclusive('\n');
     let all = records(&input);
     for (number, record) in all.iter().enumerate() {
-        let theirs: String = wanted.by_ref().take(4).collect();
-        assert_eq!(lines(record), theirs, "record {number}");
+        let ours = lines(record);
+        let theirs: String = wanted.by_ref().take(ours.lines().count()).collect();
+        assert_eq!(ours, theirs, "record {number}");
     }
     assert_eq!(wanted.next(), None);
     assert!(all.len() >= 4_500, "only {} records", all.len());

@@ -10,9 +10,10 @@ use lib.Seq.{length-take-le}
 use lib.Dec.{ltb, leb}
 use borrow.Author.Tests.{ltb-true, ltb-false, leb-true, leb-false}
 use Rattle.aadl.specs.declared.Answer.{Answer}
+use Rattle.aadl.specs.declared.TreeAnswer.{TreeAnswer}
 use Rattle.aadl.specs.Tokens.{length-in, total, token-text}
 use Rattle.lexer.proofs.TextLaws.{text-none, text-past, text-at}
-use Rattle.capi.specs.Numbers.{told, text-start, part-told, part-of}
+use Rattle.capi.specs.Numbers.{told, tree-told, text-start, part-told, part-of}
 
 pub five-set : (a : Answer) (old : List ℕ) →
     set (set (set (set (set old 0 (a .number)) 1 (a .place)) 2 (a .tokens)) 3 (a .taken)) 4 (a .events) ≡ told a old
@@ -23,6 +24,16 @@ five-set a (n ∷ p ∷ []) = refl
 five-set a (n ∷ p ∷ t ∷ []) = refl
 five-set a (n ∷ p ∷ t ∷ k ∷ []) = refl
 five-set a (n ∷ p ∷ t ∷ k ∷ e ∷ old) = refl
+
+pub sixth-set : (a : TreeAnswer) (old : List ℕ) → set (told (a .answer) old) 5 (a .records) ≡ tree-told a old
+unfolding told tree-told
+sixth-set a [] = refl
+sixth-set a (n ∷ []) = refl
+sixth-set a (n ∷ p ∷ []) = refl
+sixth-set a (n ∷ p ∷ t ∷ []) = refl
+sixth-set a (n ∷ p ∷ t ∷ k ∷ []) = refl
+sixth-set a (n ∷ p ∷ t ∷ k ∷ e ∷ []) = refl
+sixth-set a (n ∷ p ∷ t ∷ k ∷ e ∷ r ∷ old) = refl
 
 module _ (text words : List ℕ) (i : ℕ) where
   pub two-set : (old : List ℕ) → set (set old 0 (text-start text words i)) 1 (length (token-text text words i)) ≡ part-told text words i old

@@ -1,8 +1,9 @@
 -- What the exported calls write into lent numbers. Assumes nothing.
 use Prim.Native.Nat.{ℕ, min}
-use mathlib.Core.List.{List, [], _∷_}
+use mathlib.Core.List.{List, [], _∷_, _++_}
 use lib.ListN.{length, take, drop}
 use Rattle.aadl.specs.declared.Answer.{Answer}
+use Rattle.aadl.specs.declared.TreeAnswer.{TreeAnswer}
 use Rattle.aadl.specs.Tokens.{total, token-text}
 use Rattle.lexer.specs.Filling.{write}
 
@@ -13,6 +14,10 @@ numbers a = a .number ∷ a .place ∷ a .tokens ∷ a .taken ∷ a .events ∷ 
 -- Lent numbers at exit: an answer's over the first of them, as many as are lent; the others as they were.
 unfoldable pub told : Answer → (old : List ℕ) → List ℕ
 told a old = write (numbers a) old
+
+-- "The answer gains the number of records": a sixth number, behind the five.
+unfoldable pub tree-told : TreeAnswer → (old : List ℕ) → List ℕ
+tree-told a old = write (numbers (a .answer) ++ (a .records ∷ [])) old
 
 -- Where a token's text starts: where the lengths before it sum to, but never past the text's end.
 abbrev pub text-start : (text words : List ℕ) → (number : ℕ) → ℕ

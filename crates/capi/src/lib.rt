@@ -8,7 +8,8 @@ ghost use Rattle.aadl.specs.Limits.{base};
 ghost use Rattle.aadl.specs.Tokens.{token-text};
 ghost use Rattle.aadl.specs.Answers.{tokens-answer, section-answer, token-words, event-words, left-in};
 ghost use Rattle.aadl.specs.Demand.{Read-as-derived};
-ghost use Rattle.capi.specs.Numbers.{told, text-start, part-told, part-of};
+ghost use Rattle.aadl.specs.Records.{record-words, tree-answer, Recorded};
+ghost use Rattle.capi.specs.Numbers.{told, tree-told, text-start, part-told, part-of};
 
 // Sets a number if it is lent.
 fn put(numbers: &mut [usize], at: usize, n: usize)
@@ -45,6 +46,27 @@ pub extern "C" fn gigboda_property_section(
 {
     let a = section::property_section(src, tokens, events);
     tell(answer, a);
+}
+
+// The tree call: tokens, events and the tree's records into lent words, the answer's numbers into lent numbers.
+#[no_mangle]
+pub extern "C" fn gigboda_property_tree(
+    src: &[u8],
+    tokens: &mut [u32],
+    events: &mut [u32],
+    records: &mut [u32],
+    answer: &mut [usize],
+)
+    ensures answered { λ r. ⌜ now (answer .exit) ≡ tree-told (tree-answer base (now (src .entry)) (length (now (tokens .entry))) (length (now (events .entry))) (length (now (records .entry)))) (now (answer .entry)) ⌝ }
+    ensures token_words { λ r. ⌜ now (tokens .exit) ≡ left-in (tree-answer base (now (src .entry)) (length (now (tokens .entry))) (length (now (events .entry))) (length (now (records .entry))) .answer) (token-words (now (src .entry))) (now (tokens .entry)) ⌝ }
+    ensures event_words { λ r. ⌜ now (events .exit) ≡ left-in (tree-answer base (now (src .entry)) (length (now (tokens .entry))) (length (now (events .entry))) (length (now (records .entry))) .answer) (event-words base (now (src .entry))) (now (events .entry)) ⌝ }
+    ensures record_words { λ r. ⌜ now (records .exit) ≡ left-in (tree-answer base (now (src .entry)) (length (now (tokens .entry))) (length (now (events .entry))) (length (now (records .entry))) .answer) (record-words base (now (src .entry))) (now (records .entry)) ⌝ }
+    ensures derived { λ r. ⌜ (tree-answer base (now (src .entry)) (length (now (tokens .entry))) (length (now (events .entry))) (length (now (records .entry))) .answer .number ≡ 0 → Read-as-derived (now (src .entry)) (tree-answer base (now (src .entry)) (length (now (tokens .entry))) (length (now (events .entry))) (length (now (records .entry))) .answer) (now (events .exit))) ⌝ }
+    ensures recorded { λ r. ⌜ (tree-answer base (now (src .entry)) (length (now (tokens .entry))) (length (now (events .entry))) (length (now (records .entry))) .answer .number ≡ 0 → Recorded (now (src .entry)) (tree-answer base (now (src .entry)) (length (now (tokens .entry))) (length (now (events .entry))) (length (now (records .entry)))) (now (events .exit)) (now (records .exit))) ⌝ }
+{
+    let a = tree::property_tree(src, tokens, events, records);
+    tell(answer, a.answer);
+    put(answer, 5, a.records);
 }
 
 // The tokens-only call: tokens into lent words, the answer's numbers into lent numbers.

@@ -1,7 +1,9 @@
-//! The safe functions and the tree of bindings/rust against the given Rust, on texts of all families (tools/bindings-test runs it).
-use gigboda::{property_section, tokenize, Event, Kind, Message, Node, Refusal, Section};
+//! The safe functions of bindings/rust, the tree and its records against the given Rust, on texts of all families (tools/bindings-test runs
+//! it).
+use gigboda::{property_section, property_tree, tokenize, Event, Kind, Message, Node, Refusal, Refused, Section};
 use spar::event::Event as Theirs;
 use spar::syntax_kind::SyntaxKind;
+use std::ops::Range;
 use texts::families::{self, Family, Maker};
 use texts::random::Rng;
 
@@ -105,6 +107,38 @@ fn their_tree(mut events: Vec<Theirs>, mut texts: impl Iterator<Item = String>) 
     tree.done()
 }
 
+/// A record for each node of a tree, in the order in which they open: kind, parent, first token, tokens below.
+fn add_records(tree: &Tree, parent: usize, taken: &mut usize, records: &mut Vec<[usize; 4]>) {
+    match tree {
+        Tree::Node(kind, inside) => {
+            let (node, first) = (records.len(), *taken);
+            records.push([usize::from(*kind), parent, first, 0]);
+            inside.iter().for_each(|tree| add_records(tree, node, taken, records));
+            records[node][3] = *taken - first;
+        }
+        Tree::Token(..) => *taken += 1,
+        Tree::Error(_) => {}
+    }
+}
+
+/// Compares the records of a section with those of the Rust's tree; with one fewer it is refused where the last node's token starts.
+fn same_records(section: &Section, theirs: &[Tree], starts: &[usize]) {
+    let mut records = Vec::new();
+    theirs.iter().for_each(|tree| add_records(tree, 0, &mut 0, &mut records));
+    let words: Vec<u32> = records.iter().flatten().map(|number| *number as u32).collect();
+    let (mut tokens, mut events) = (vec![7; section.token_words.len()], vec![7; section.event_words.len()]);
+    let mut lent = vec![7; words.len()];
+    let tree = property_tree(section.text, &mut tokens, &mut events, &mut lent).expect("not refused");
+    let ours = (tree.section.token_words, tree.section.event_words, tree.section.taken, tree.record_words);
+    assert_eq!(ours, (section.token_words, section.event_words, section.taken, words.as_slice()));
+    let fewer = words.len() - 1;
+    let refused = property_tree(section.text, &mut tokens, &mut events, &mut lent[..fewer]).map(|tree| tree.len());
+    let first = records.last().expect("a root")[2];
+    let place = starts.get(first).copied().unwrap_or(section.text.len());
+    assert_eq!(refused, Err(Refused { refusal: Refusal::NoRecord, place }));
+    assert!(tokens.iter().chain(&events).chain(&lent[..fewer]).all(|word| *word == 0));
+}
+
 fn same_event(ours: Event, theirs: &Theirs) -> bool {
     match (ours, theirs) {
         (Event::Start { kind, forward_parent }, Theirs::Start { kind: k, forward_parent: f }) => {
@@ -125,7 +159,7 @@ fn same_tokens(text: &str) {
     assert_eq!(ours, theirs, "{text:?}");
 }
 
-/// Compares the events and the tree of a text with the Rust's. False for a text that is refused where the Rust has no limit.
+/// Compares the events, the tree and its records with the Rust's. False for a text that is refused where the Rust has no limit.
 fn same_section(text: &str) -> bool {
     let (mut tokens, mut events) = (vec![0; text.len()], vec![0; gigboda::MOST_EVENTS]);
     let section = match property_section(text.as_bytes(), &mut tokens, &mut events) {
@@ -144,10 +178,13 @@ fn same_section(text: &str) -> bool {
     let mut at = 0;
     let parts = all.iter().map(|(kind, len)| {
         at += len;
-        (kind.is_trivia(), text[at - len..at].to_string())
+        (kind.is_trivia(), at - len..at)
     });
-    let leaves: Vec<String> = parts.filter(|p| !p.0).map(|p| p.1).collect();
-    assert_eq!(our_tree(&section, text), their_tree(theirs, leaves.into_iter()), "{text:?}");
+    let leaves: Vec<Range<usize>> = parts.filter(|p| !p.0).map(|p| p.1).collect();
+    let theirs = their_tree(theirs, leaves.iter().map(|range| text[range.clone()].to_string()));
+    assert_eq!(our_tree(&section, text), theirs, "{text:?}");
+    let starts: Vec<usize> = leaves.iter().map(|range| range.start).collect();
+    same_records(&section, &theirs, &starts);
     true
 }
 
@@ -198,6 +235,6 @@ fn events_and_trees_are_the_rusts() {
         let texts = texts_of(families::sections(), 8);
         let read = texts.iter().filter(|text| same_section(text)).count();
         assert!(read > 20_000, "only {read} of {} texts were read", texts.len());
-        println!("{read} of {} texts read to the same events and trees, the others refused", texts.len());
+        println!("{read} of {} texts read to the same events, trees and records, the others refused", texts.len());
     });
 }
