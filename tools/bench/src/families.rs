@@ -91,6 +91,17 @@ fn openers(bytes: usize) -> String {
     filled(bytes, "properties\n", |_| format!("A => {}1;\n", "-   ".repeat(64)), "")
 }
 
+/// About as deep as a tree gets, by forward parents alone: each product is the first operand of the next, and the second ones are missing, for
+/// they would take events. At 32 KB there are 8,187 in one another.
+fn products(bytes: usize) -> String {
+    filled(bytes, "properties\na => 1", |_| "*   ".to_string(), ";")
+}
+
+/// Each sum is the first operand of the next, 5,458 at 32 KB. With four spaces each the longest text has fewer events than may be.
+fn sums(bytes: usize) -> String {
+    filled(bytes, "properties\na => 1", |_| "+  1  ".to_string(), ";")
+}
+
 /// Names of four letters or so keep the longest text below as many events as may be.
 fn marks(bytes: usize) -> String {
     let values = [
@@ -103,7 +114,7 @@ fn marks(bytes: usize) -> String {
 
 /// Every family at every size, the realistic ones first.
 pub fn all() -> Vec<Text> {
-    let families: [(&'static str, bool, fn(usize) -> String); 12] = [
+    let families: [(&'static str, bool, fn(usize) -> String); 14] = [
         ("realistic", true, realistic),
         ("varied", true, varied),
         ("identifiers", false, identifiers),
@@ -116,6 +127,8 @@ pub fn all() -> Vec<Text> {
         ("comments between two tokens", true, comment_gap),
         ("one long identifier", true, long_identifier),
         ("64 openers over and over", true, openers),
+        ("products in a chain", false, products),
+        ("sums in a chain", true, sums),
     ];
     let mut texts = Vec::new();
     for (family, clean, make) in families {

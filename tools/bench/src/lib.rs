@@ -1,5 +1,6 @@
-//! Measures the proved calls and the given Rust on the same texts: tokens alone, and whole sections. There is a program for each of four
-//! places at which the code can stand in its lines of 64 bytes; `bench` runs them and prints the table.
+//! Measures the proved calls and the given Rust on the same texts: tokens alone, and whole sections; and the tree call beside the section
+//! call. There is a program for each of four places at which the code can stand in its lines of 64 bytes; `bench` runs them and prints the
+//! table.
 pub mod families;
 pub mod measure;
 pub mod place;

@@ -4,6 +4,7 @@ use bench::families::{self, Text};
 use bench::measure::ROUNDS;
 use bench::place::{self, Measured, LINE, WORDS};
 use bench::table;
+use gigboda::Tree;
 use std::process::{exit, Command, Stdio};
 
 const PROGRAMS: [&str; 4] = ["place-0", "place-16", "place-32", "place-48"];
@@ -39,8 +40,9 @@ fn measure_all(texts: &[Text]) -> Vec<Measured> {
 
 fn main() {
     println!(
-        "ns of thread time per byte, lower quartile of {ROUNDS} rounds, ours and the Rust's in turn; {WORDS} words of each sort lent \
-         once per text, not cleared between calls"
+        "ns of thread time per byte, lower quartile of {ROUNDS} rounds, ours and the Rust's in turn; {WORDS} words of each sort lent, \
+         for records {}, once per text, not cleared between calls",
+        Tree::RECORD * WORDS
     );
     let texts = families::all();
     let places = measure_all(&texts);
@@ -48,5 +50,6 @@ fn main() {
     table::print(&rows);
     table::print_flatness(&rows);
     table::print_spread(&rows);
+    table::print_tree(&rows);
     println!("{}", table::lowest(&rows));
 }

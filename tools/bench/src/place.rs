@@ -1,7 +1,7 @@
 //! What is measured with the code at one place, and its form between two programs: a line with the places, then one for each text.
 use crate::families::Text;
 use crate::measure::{quartiles, Job, Quartiles};
-use gigboda::{property_section, tokenize};
+use gigboda::{property_section, property_tree, tokenize, Node, Tree};
 use spar::parser::Parser;
 use std::hint::black_box;
 use std::str::FromStr;
@@ -12,8 +12,11 @@ pub const WORDS: usize = 32_768;
 /// Code is fetched by lines of so many bytes.
 pub const LINE: usize = 64;
 
-/// Our tokens, the Rust's, our section, the Rust's, and a pass that only checks UTF-8; in nanoseconds per byte of a text.
-pub type Times = [Quartiles; 5];
+/// How many jobs a text has: our tokens, the Rust's, our section, the Rust's, our tree, and a pass that only checks UTF-8.
+const JOBS: usize = 6;
+
+/// Their times, in nanoseconds per byte of a text.
+pub type Times = [Quartiles; JOBS];
 
 /// What one program measures: where in their lines our call and the Rust's stand, and the times of each text.
 pub struct Measured {
@@ -22,15 +25,16 @@ pub struct Measured {
     pub times: Vec<Times>,
 }
 
-/// The lent words, made once for each text.
+/// The words that are lent to one of our calls, made once for each text.
 struct Lent {
     tokens: Vec<u32>,
     events: Vec<u32>,
+    records: Vec<u32>,
 }
 
 impl Lent {
     fn new() -> Lent {
-        Lent { tokens: vec![0; WORDS], events: vec![0; WORDS] }
+        Lent { tokens: vec![0; WORDS], events: vec![0; WORDS], records: vec![0; Tree::RECORD * WORDS] }
     }
 }
 
@@ -45,6 +49,12 @@ fn our_section(text: &str, lent: &mut Lent) -> (usize, usize) {
     (section.token_words.len(), section.event_words.len())
 }
 
+/// How many tokens, events and nodes a section has.
+fn our_tree(text: &str, lent: &mut Lent) -> (usize, usize, usize) {
+    let tree = property_tree(text.as_bytes(), &mut lent.tokens, &mut lent.events, &mut lent.records).expect("not refused");
+    (tree.section.token_words.len(), tree.section.event_words.len(), tree.len())
+}
+
 fn rust_section(text: &str) -> (usize, usize) {
     let tokens = spar::lexer::tokenize(text);
     let mut parser = Parser::new(&tokens, text);
@@ -53,34 +63,39 @@ fn rust_section(text: &str) -> (usize, usize) {
     (tokens.len(), events.len())
 }
 
-/// The two read the same: no refusal, as many tokens and as many events; and it is clean where it is to be.
+/// The two read the same: no refusal, as many tokens and as many events; the tree has the nodes that the events spell; and it is clean where
+/// it is to be.
 fn check(text: &Text, lent: &mut Lent) {
     let name = format!("{} {}", text.family, text.bytes);
     let counts = our_section(&text.text, lent);
     assert_eq!(counts, rust_section(&text.text), "{name}: counts differ");
     assert_eq!(our_tokens(&text.text, &mut lent.tokens), counts.0, "{name}: the two calls differ");
+    let (tokens, events, nodes) = our_tree(&text.text, lent);
     let section = property_section(text.text.as_bytes(), &mut lent.tokens, &mut lent.events).expect("not refused");
+    let entered = section.nodes().filter(|step| matches!(step.node, Node::Enter(_))).count();
+    assert_eq!((tokens, events, nodes), (counts.0, counts.1, entered), "{name}: the tree differs");
     assert_eq!(section.is_clean(), text.clean, "{name}: clean");
 }
 
-/// The five jobs of a text.
-fn jobs<'a>(source: &'a str, only: &'a mut [u32], lent: &'a mut Lent) -> [Job<'a>; 5] {
+/// The jobs of a text.
+fn jobs<'a>(source: &'a str, [only, section, tree]: &'a mut [Lent; 3]) -> [Job<'a>; JOBS] {
     [
-        Job::new(move || our_tokens(black_box(source), only)),
+        Job::new(move || our_tokens(black_box(source), &mut only.tokens)),
         Job::new(move || spar::lexer::tokenize(black_box(source))),
-        Job::new(move || our_section(black_box(source), lent)),
+        Job::new(move || our_section(black_box(source), section)),
         Job::new(move || rust_section(black_box(source))),
+        Job::new(move || our_tree(black_box(source), tree)),
         Job::new(move || std::str::from_utf8(black_box(source.as_bytes())).is_ok()),
     ]
 }
 
 /// The times of all texts, measured in the same rounds.
 fn times(texts: &[Text]) -> Vec<Times> {
-    let mut lent: Vec<_> = texts.iter().map(|_| (vec![0; WORDS], Lent::new())).collect();
-    texts.iter().zip(&mut lent).for_each(|(text, (_, lent))| check(text, lent));
-    let mut all: Vec<Job> = texts.iter().zip(&mut lent).flat_map(|(t, (only, lent))| jobs(&t.text, only, lent)).collect();
+    let mut lent: Vec<_> = texts.iter().map(|_| std::array::from_fn(|_| Lent::new())).collect();
+    texts.iter().zip(&mut lent).for_each(|(text, lent)| check(text, &mut lent[0]));
+    let mut all: Vec<Job> = texts.iter().zip(&mut lent).flat_map(|(t, lent)| jobs(&t.text, lent)).collect();
     let found = quartiles(&mut all);
-    let each = texts.iter().zip(found.chunks(5));
+    let each = texts.iter().zip(found.chunks(JOBS));
     each.map(|(t, of_text)| {
         let bytes = t.text.len() as f64;
         std::array::from_fn(|job| Quartiles { lower: of_text[job].lower / bytes, upper: of_text[job].upper / bytes })

@@ -8,9 +8,12 @@ pub struct Row<'a> {
     /// Nanoseconds per byte.
     ours: [f64; 2],
     rust: [f64; 2],
+    tree: f64,
     utf8: f64,
     /// How many times as fast as the Rust we are.
     ratios: [f64; 2],
+    /// How many times as long as the section call the tree call takes.
+    tree_ratio: f64,
     /// The largest upper quartile over its lower one.
     spread: f64,
 }
@@ -31,14 +34,16 @@ impl Row<'_> {
     /// What the places have for a text.
     fn new<'a>(text: &'a Text, places: &[&Times]) -> Row<'a> {
         let time = |job: usize| median(places.iter().map(|t| t[job].lower));
-        let ratio = |ours: usize, rust: usize| median(places.iter().map(|t| t[rust].lower / t[ours].lower));
+        let ratio = |below: usize, above: usize| median(places.iter().map(|t| t[above].lower / t[below].lower));
         Row {
             text,
             ours: [time(0), time(2)],
             rust: [time(1), time(3)],
-            utf8: time(4),
+            tree: time(4),
+            utf8: time(5),
             ratios: [ratio(0, 1), ratio(2, 3)],
-            spread: largest(places.iter().flat_map(|t| &t[..4]).map(|q| q.upper / q.lower)),
+            tree_ratio: ratio(2, 4),
+            spread: largest(places.iter().flat_map(|t| &t[..5]).map(|q| q.upper / q.lower)),
         }
     }
 
@@ -55,12 +60,12 @@ pub fn rows<'a>(texts: &'a [Text], places: &[Measured]) -> Vec<Row<'a>> {
 
 pub fn print(rows: &[Row]) {
     println!(
-        "{:<28} {:>6} {:>9} {:>9} {:>9} {:>9} {:>7} {:>8} {:>7} {:>6}",
-        "family", "bytes", "tokens", "Rust's", "sections", "Rust's", "tokens", "sections", "spread", "UTF-8"
+        "{:<28} {:>6} {:>9} {:>9} {:>9} {:>9} {:>7} {:>8} {:>7} {:>6} {:>6}",
+        "family", "bytes", "tokens", "Rust's", "sections", "Rust's", "tokens", "sections", "spread", "UTF-8", "tree"
     );
     for row in rows {
         println!(
-            "{:<28} {:>6} {:>9.2} {:>9.2} {:>9.2} {:>9.2} {:>7.2} {:>8.2} {:>7.2} {:>6.2}",
+            "{:<28} {:>6} {:>9.2} {:>9.2} {:>9.2} {:>9.2} {:>7.2} {:>8.2} {:>7.2} {:>6.2} {:>6.2}",
             row.text.family,
             row.text.text.len(),
             row.ours[0],
@@ -70,19 +75,28 @@ pub fn print(rows: &[Row]) {
             row.ratios[0],
             row.ratios[1],
             row.spread,
-            row.utf8
+            row.utf8,
+            row.tree_ratio
         );
     }
 }
 
-/// For each family, how flat our time per byte is over the sizes: the largest over the smallest.
+/// How far numbers are apart: the largest over the smallest.
+fn apart(numbers: impl Iterator<Item = f64> + Clone) -> f64 {
+    largest(numbers.clone()) / numbers.fold(f64::INFINITY, f64::min)
+}
+
+/// The rows of each family, all its sizes.
+fn families<'a, 'b>(rows: &'b [Row<'a>]) -> impl Iterator<Item = &'b [Row<'a>]> {
+    rows.chunk_by(|a, b| a.text.family == b.text.family)
+}
+
+/// For each family, how flat our time per byte is over the sizes.
 pub fn print_flatness(rows: &[Row]) {
-    for family in rows.chunk_by(|a, b| a.text.family == b.text.family) {
-        let flat = |call: usize| {
-            let times = family.iter().map(|row| row.ours[call]);
-            largest(times.clone()) / times.fold(f64::INFINITY, f64::min)
-        };
-        println!("flat {:<28} tokens {:.2} sections {:.2}", family[0].text.family, flat(0), flat(1));
+    for family in families(rows) {
+        let flat = |time: fn(&Row) -> f64| apart(family.iter().map(time));
+        let [tokens, sections, tree] = [flat(|row| row.ours[0]), flat(|row| row.ours[1]), flat(|row| row.tree)];
+        println!("flat {:<28} tokens {tokens:.2} sections {sections:.2} tree {tree:.2}", family[0].text.family);
     }
 }
 
@@ -92,6 +106,19 @@ pub fn print_spread(rows: &[Row]) {
         "spread {:.2} in the middle, at most {:.2} on {}",
         median(rows.iter().map(|row| row.spread)),
         row.spread,
+        row.name()
+    );
+}
+
+/// The highest ratios of the tree call's time to the section call's, and how far a family's are apart over its sizes.
+pub fn print_tree(rows: &[Row]) {
+    let row = rows.iter().max_by(|a, b| a.tree_ratio.total_cmp(&b.tree_ratio)).expect("a text");
+    let each = families(rows).map(|family| (apart(family.iter().map(|row| row.tree_ratio)), family[0].text.family));
+    let (most, family) = each.max_by(|a, b| a.0.total_cmp(&b.0)).expect("a family");
+    println!(
+        "tree {:.2} times the section's time in the middle, at most {:.2} on {}; from 1 to 32 KB at most {most:.2} times apart on {family}",
+        median(rows.iter().map(|row| row.tree_ratio)),
+        row.tree_ratio,
         row.name()
     );
 }
