@@ -3,8 +3,10 @@ pub mod Lists
 pub mod RunLaws
 pub mod ByteClasses
 pub mod Utf8Laws
+pub mod Characters
 pub mod TokenBounds
 pub mod TokensCover
+pub mod WholeCharacters
 pub mod KeywordKinds
 pub mod SectionTest
 pub mod Literal

@@ -1,6 +1,6 @@
 -- Laws of UTF-8: a sequence ends within the text; the place of the first ill-formed sequence is found step by step. A row of
 -- the table that fits is no longer than the bytes; passing over k bytes is dropping them. Assumes nothing.
-use Prim.Native.Nat.{ℕ, zero, suc, _+_, _-_, _≤_, zero-le, suc-le-suc}
+use Prim.Native.Nat.{ℕ, zero, suc, _+_, _-_, _≤_, _<_, zero-le, suc-le-suc}
 use native.Mathlib.Nat.{le-of-suc-le-suc, not-suc-le-zero}
 use native.Mathlib.Omega.{arith}
 use mathlib.Core.Path.{_≡_, refl, ap}
@@ -8,7 +8,7 @@ use mathlib.Core.Bool.{true, _&&_, false≢true}
 use mathlib.Core.List.{List, [], _∷_}
 use lib.ListN.{length, drop}
 use lib.Dec.{leb}
-use borrow.Author.Tests.{eq-eqb, ne-eqb}
+use borrow.Author.Tests.{eq-eqb, ne-eqb, le-leb}
 use Rattle.aadl.specs.Utf8.{Range, _to_, table-3-7, fits, fitting, sequence, ill-formed-after, ill-formed}
 use Rattle.predictive.proofs.Tests.{and-r}
 use Rattle.aadl.proofs.Bools.{cond-has}
@@ -30,6 +30,11 @@ fitting-within (row ∷ rows) bs =
 pub sequence-within : (bs : List ℕ) → sequence bs ≤ length bs
 unfolding sequence
 sequence-within bs = fitting-within table-3-7 bs
+
+-- a byte below 128 is one
+pub ascii-one : (b : ℕ) (bs : List ℕ) → b < 128 → sequence (b ∷ bs) ≡ 1
+unfolding sequence table-3-7
+ascii-one b bs h = rw (le-leb b 127 (le-of-suc-le-suc h), le-leb 0 b (omega arith)) refl
 
 -- WELL-FORMED TEXT -----------------------------------------------------------------------------------------------------
 

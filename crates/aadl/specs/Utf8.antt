@@ -1,5 +1,5 @@
--- UTF-8: the well-formed sequences are those of table 3-7 of the Unicode standard; refusal 2 names the start of the first
--- ill-formed one. Assumes nothing.
+-- UTF-8: the well-formed sequences are those of table 3-7 of the Unicode standard, each spells one scalar value; refusal 2 names the start
+-- of the first ill-formed one. Assumes nothing.
 use Prim.Native.Nat.{ℕ, zero, suc, _-_}
 use mathlib.Core.Bool.{Bool, true, false, _&&_, cond}
 use mathlib.Core.List.{List, [], _∷_}
@@ -48,3 +48,17 @@ ill-formed-after zero (b ∷ bs) =
 
 abbrev pub ill-formed : List ℕ → ℕ
 ill-formed bs = ill-formed-after 0 bs
+
+-- How many Unicode scalar values the bytes spell that come after k to pass over: each well-formed sequence is one. (A byte that begins none
+-- counts one too; no text that is read has such.)
+unfoldable pub scalars-after : ℕ → List ℕ → ℕ
+scalars-after k [] = 0
+scalars-after (suc k) (b ∷ bs) = scalars-after k bs
+scalars-after zero (b ∷ bs) = suc (scalars-after (sequence (b ∷ bs) - 1) bs)
+
+abbrev pub scalars : List ℕ → ℕ
+scalars bs = scalars-after 0 bs
+
+-- The bytes that continue a sequence: those that the table has in any column but the first.
+abbrev pub is-continuation : ℕ → Bool
+is-continuation b = leb 0x80 b && leb b 0xBF

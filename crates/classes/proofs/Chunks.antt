@@ -14,8 +14,9 @@ use borrow.Author.Tests.{leb-false, leb-true, le-leb, eq-eqb, ne-eqb, eqb-true, 
 use Rattle.predictive.specs.Grammar.{has}
 use Rattle.predictive.proofs.Tests.{never, and-both, or-l, or-r}
 use Rattle.aadl.specs.Bytes.{run, run-end}
-use Rattle.aadl.specs.Utf8.{table-3-7, sequence, ill-formed-after, ill-formed}
+use Rattle.aadl.specs.Utf8.{ill-formed-after, ill-formed}
 use Rattle.aadl.proofs.Bools.{cond-has}
+use Rattle.aadl.proofs.Utf8Laws.{ascii-one}
 use Rattle.aadl.proofs.TokenBounds.{run-within}
 use Rattle.classes.specs.Search.{any, sought, unsought, other-than, chunks-end}
 
@@ -139,14 +140,9 @@ other-run-end x h bs i = ap (λ (k : ℕ). i + k) (other-run x (ne-eqb x 255 (λ
 
 -- WELL-FORMED TEXT -----------------------------------------------------------------------------------------------------
 
--- a byte below 128 is a sequence
-ascii-one : (b : ℕ) (bs : List ℕ) → leb 128 b ≡ false → sequence (b ∷ bs) ≡ 1
-unfolding sequence table-3-7
-ascii-one b bs e = rw (le-leb b 127 (le-of-suc-le-suc (leb-false 128 b e)), le-leb 0 b (omega arith)) refl
-
 ascii-step : (b : ℕ) (bs : List ℕ) → leb 128 b ≡ false → ill-formed (b ∷ bs) ≡ suc (ill-formed bs)
 unfolding ill-formed-after
-ascii-step b bs e = rw (ascii-one b bs e) refl
+ascii-step b bs e = rw (ascii-one b bs (leb-false 128 b e)) refl
 
 pub ascii-whole : (bs : List ℕ) → any (sought 128 255) bs ≡ false → ill-formed bs ≡ length bs
 unfolding ill-formed-after
