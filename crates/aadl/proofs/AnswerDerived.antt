@@ -2,23 +2,26 @@
 -- (EventWords); then it is demand 3 of the definitions. Assumes nothing.
 use Prim.Native.Nat.{ℕ, _≤_}
 use native.Mathlib.Omega.{arith}
-use mathlib.Core.Path.{_≡_, refl, sym, ap, subst, _∙_}
+use mathlib.Core.Path.{_≡_, refl, sym, ap, ap₂, subst, _∙_}
 use mathlib.Core.Bool.{false}
 use mathlib.Core.List.{List, [], _∷_, _++_}
 use lib.ListN.{length, drop, length-map}
-use borrow.Author.Tests.{ltb-false}
+use lib.Dec.{eqb}
+use borrow.Author.Tests.{ltb-false, eqb-true, not-false}
 use Rattle.predictive.specs.Forest.{message, refusal}
 use Rattle.predictive.specs.Events.{Event, start, token, finish, error, taken, erring, any-fault, stops}
 use Rattle.predictive.specs.Tree.{spell}
 use Rattle.predictive.proofs.Tests.{never}
 use Rattle.aadl.specs.declared.Answer.{Answer}
 use Rattle.aadl.specs.Limits.{Limits}
+use Rattle.aadl.specs.Utf8.{ill-formed}
 use Rattle.aadl.specs.Tokens.{tokens}
 use Rattle.aadl.specs.Symbols.{shown, symbols, kinds}
 use Rattle.aadl.specs.Encoding.{room, events-in}
 use Rattle.aadl.specs.Reading.{events, pushed, too-deep, Clean}
 use Rattle.aadl.specs.Answers.{text-checks, section-checks, answered, all-answered, section-answer, left-in, event-words}
 use Rattle.aadl.specs.Demand.{answered-events, Clean-answer, Read-as-derived}
+use Rattle.aadl.proofs.Characters.{Well-formed}
 use Rattle.aadl.proofs.Checks.{fails-by}
 use Rattle.aadl.proofs.Settled.{five-numbers, whole}
 use Rattle.aadl.proofs.AnswerLaws.{left-answered}
@@ -42,9 +45,11 @@ module _ (limits : Limits) (text : List ℕ) (m n : ℕ) where
   abbrev es : List Event
   es = events limits (symbols text)
 
-  -- An answer that refuses nothing: the text is short enough, no opener too many stands, all events have words and are counted.
+  -- An answer that refuses nothing: the text is short enough and well-formed, no opener too many stands, all events have words and are
+  -- counted.
   pub record Answered : Type 0 where
     pub short : length text ≤ limits .bytes
+    pub formed : Well-formed text
     pub deep : too-deep limits (symbols text) ≡ false
     pub few : length es ≤ room n
     pub whole : section-answer limits text m n ≡ answered (length (tokens text)) (taken es) (length es)
@@ -56,25 +61,35 @@ module _ (limits : Limits) (text : List ℕ) (m n : ℕ) where
       let w = whole five-numbers cs refl (all-answered limits text) (section-answer limits text m n) refl refl [] tt z in
       let d : erring stops es ≡ false = fails-by 6 cs (w .none) in
       let f : length (pushed es) ≤ room n = ltb-false (room n) (length (pushed es)) (fails-by 5 cs (w .none)) in
-      record { short = ltb-false (limits .bytes) (length text) (fails-by 1 cs (w .none)); deep = d; few = subst (λ (l : List Event). length l ≤ room n) (pushed-all es d) f; whole = w .counts }
+      record {
+        short = ltb-false (limits .bytes) (length text) (fails-by 1 cs (w .none));
+        formed = eqb-true (ill-formed text) (length text) (not-false (eqb (ill-formed text) (length text)) (fails-by 2 cs (w .none)));
+        deep = d;
+        few = subst (λ (l : List Event). length l ≤ room n) (pushed-all es d) f;
+        whole = w .counts;
+      }
 
-  -- The events that an answer counts are the reading's.
-  told : (old : List ℕ) → (z : section-answer limits text m n .number ≡ 0) →
-      answered-events (section-answer limits text m n) (left-in (section-answer limits text m n) (event-words limits text) old) ≡ es
-  told old z =
-      let a = answered-whole z in
-      ap (λ (x : Answer). answered-events x (left-in x (event-words limits text) old)) (a .whole)
+  -- The events that an answer counts are the reading's: told by the words ws that it left in the lent words old.
+  pub told : (old : List ℕ) (a : Answer) (ws : List ℕ) → a ≡ section-answer limits text m n →
+      ws ≡ left-in (section-answer limits text m n) (event-words limits text) old → section-answer limits text m n .number ≡ 0 → answered-events a ws ≡ es
+  told old a ws e w z =
+      let x = answered-whole z in
+      ap₂ answered-events e w
+      ∙ ap (λ (b : Answer). answered-events b (left-in b (event-words limits text) old)) (x .whole)
       ∙ ap (events-in (length es)) (left-answered (length (tokens text)) (taken es) (length es) (event-words limits text) old)
-      ∙ first-words-tell limits text (drop (length (event-words limits text)) old) (a .deep) (omega (arith, a .few))
+      ∙ first-words-tell limits text (drop (length (event-words limits text)) old) (x .deep) (omega (arith, x .few))
 
   -- An answer that refuses nothing, and the event words that are then left, are read as derived.
   pub answer-derived : (old : List ℕ) → section-answer limits text m n .number ≡ 0 →
       Read-as-derived text (section-answer limits text m n) (left-in (section-answer limits text m n) (event-words limits text) old)
   answer-derived old z =
-      record { exactly = (λ c. d .exactly .0 (clean c), λ u. cleaned (d .exactly .1 u)); unique = d .unique; spelled = λ t u. ap spell (told old z) ∙ d .spelled t u }
+      record { exactly = (λ c. d .exactly .0 (clean c), λ u. cleaned (d .exactly .1 u)); unique = d .unique; spelled = λ t u. ap spell tells ∙ d .spelled t u }
     where
       d : Demand-3 limits (symbols text) (kinds text)
       d = demand-3 limits text (answered-whole z .deep)
+
+      tells : answered-events (section-answer limits text m n) (left-in (section-answer limits text m n) (event-words limits text) old) ≡ es
+      tells = told old (section-answer limits text m n) (left-in (section-answer limits text m n) (event-words limits text) old) refl refl z
 
       -- as many tokens are taken as the text has kinds just if as many as it has symbols
       many : length (kinds text) ≡ length (symbols text)
@@ -85,8 +100,8 @@ module _ (limits : Limits) (text : List ℕ) (m n : ℕ) where
 
       clean : Clean-answer text (section-answer limits text m n) (left-in (section-answer limits text m n) (event-words limits text) old) →
           Clean limits (symbols text)
-      clean c = record { no-error = sym (ap (erring any-fault) (told old z)) ∙ c .no-error; all-taken = sym count ∙ c .all-taken ∙ many }
+      clean c = record { no-error = sym (ap (erring any-fault) tells) ∙ c .no-error; all-taken = sym count ∙ c .all-taken ∙ many }
 
       cleaned : Clean limits (symbols text) →
           Clean-answer text (section-answer limits text m n) (left-in (section-answer limits text m n) (event-words limits text) old)
-      cleaned c = record { no-error = ap (erring any-fault) (told old z) ∙ c .no-error; all-taken = count ∙ c .all-taken ∙ sym many }
+      cleaned c = record { no-error = ap (erring any-fault) tells ∙ c .no-error; all-taken = count ∙ c .all-taken ∙ sym many }

@@ -33,8 +33,7 @@ use Rattle.aadl.proofs.SectionTest.{tables, grammar-fine, section-good}
 use Rattle.aadl.proofs.Demand3.{demand-3}
 use Rattle.aadl.proofs.Checks.{Fails, fails-by, checks-pass}
 use Rattle.aadl.proofs.Settled.{Lent, lent, Form, five-numbers, Answered-whole, Settled, settled, whole}
-use Rattle.aadl.proofs.EventWords.{first-words-tell}
-use Rattle.aadl.proofs.AnswerDerived.{Answered, answered-whole, answer-derived}
+use Rattle.aadl.proofs.AnswerDerived.{Answered, answered-whole, told, answer-derived}
 use Rattle.aadl.proofs.RecordLaws.{records-back, records-tree, two-events-a-record}
 
 -- THE ROOT -------------------------------------------------------------------------------------------------------------
@@ -206,12 +205,9 @@ module _ (limits : Limits) (text : List ℕ) (m n r : ℕ) (a : TreeAnswer) (e :
 
   -- The events and the records that it counts are the text's.
   events-told : (last es : List ℕ) → es ≡ left-in (a .answer) (event-words limits text) last → answered-events (a .answer) es ≡ events limits (symbols text)
-  unfolding left-in
   events-told last es w =
-      let ws = event-words limits text in
-      ap (answered-events (a .answer)) w
-      ∙ ap (λ (x : TreeAnswer). answered-events (x .answer) (left-in (x .answer) ws last)) all-counted
-      ∙ first-words-tell limits text (drop (length ws) last) (section's .deep) (omega (arith, section's .few))
+      let q = ap (λ (x : TreeAnswer). x .answer) (e ∙ passed .whole) in
+      told limits text m n last (a .answer) es q (w ∙ ap (λ (x : Answer). left-in x (event-words limits text) last) q) (passed .section)
 
   pub records-told : (rows rs : List ℕ) → rs ≡ left-in (a .answer) (record-words limits text) rows → answered-records a rs ≡ text-records limits text
   unfolding left-in

@@ -5,7 +5,7 @@ use Prim.Native.Nat.{ℕ, zero, suc, _<_}
 use native.Mathlib.Omega.{arith}
 use mathlib.Core.Path.{_≡_, refl, sym, ap, subst, _∙_}
 use mathlib.Core.Logic.{⊎-elim}
-use mathlib.Core.List.{List, map}
+use mathlib.Core.List.{List}
 use lib.ListN.{length, getD, take, drop}
 use Rattle.predictive.specs.Forest.{nil, leaves}
 use Rattle.predictive.specs.Events.{Event}
@@ -15,14 +15,12 @@ use Rattle.aadl.specs.declared.TreeAnswer.{TreeAnswer}
 use Rattle.aadl.specs.declared.Limits.{Limits}
 use Rattle.aadl.specs.Kinds.{#_, PROPERTY-SECTION}
 use Rattle.aadl.specs.Symbols.{symbols, kinds}
-use Rattle.aadl.specs.Encoding.{event-in}
 use Rattle.aadl.specs.Reading.{events}
 use Rattle.aadl.specs.Answers.{all-answered, left-in, token-words, event-words}
 use Rattle.aadl.specs.Demand.{answered-events, Read-as-derived}
 use Rattle.aadl.specs.Records.{Record, records-in, text-records, record-words, tree-answer, all-recorded, answered-records, Recorded}
 use Rattle.aadl.proofs.Settled.{five-numbers, Answered-whole, Settled}
-use Rattle.aadl.proofs.EventWords.{words-tell-events}
-use Rattle.aadl.proofs.AnswerDerived.{Answered, answered-whole}
+use Rattle.aadl.proofs.AnswerDerived.{Answered, answered-whole, told}
 use Rattle.aadl.proofs.TreeAnswers.{all-checks, six-numbers, tree-buffers, tree-answer-is-settled, tree-answered, tree-read-as-derived, records-told, tree-recorded}
 use Rattle.aadl.proofs.RecordsUpwards.{Upwards, record-at, insides, text-upwards, text-run}
 use Rattle.section.proofs.Demands.{Called, checks, buffers, every-answer-is-settled, counted-tokens, counted-events}
@@ -55,7 +53,7 @@ module _ {limits : Limits} {text old last : List ℕ} {a : Answer} {ts es : List
   event-words-counted = counted-events c counts-all
 
   pub events-told : answered-events a es ≡ events limits (symbols text)
-  events-told = ap (map event-in) event-words-counted ∙ words-tell-events limits text (all-passed .deep) (omega (arith, all-passed .few))
+  events-told = told limits text (length old) (length last) last a es (c .answer) (c .event-words-left) (sym (ap (λ (r : Answer). r .number) (c .answer)) ∙ z)
 
 -- THE DEMANDS ----------------------------------------------------------------------------------------------------------
 
