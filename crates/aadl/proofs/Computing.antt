@@ -5,7 +5,7 @@ use Rattle.predictive.specs.Reader.{read}
 use Rattle.predictive.specs.Events.{events-of, taken, erring}
 use Rattle.predictive.specs.Tree.{spell}
 use Rattle.aadl.specs.Words.{words, table, kind-of-word}
-use Rattle.aadl.specs.Utf8.{table-3-7, sequence, ill-formed-after}
+use Rattle.aadl.specs.Utf8.{table-3-7, sequence, ill-formed-after, scalars-after}
 use Rattle.aadl.specs.Bytes.{run, run-end}
 use Rattle.aadl.specs.Tokens.{quoted, string-of, exponent-end, based, number-from, number-of, word-of, marks, mark-of, token-of, tokens-after, tokens}
 use Rattle.aadl.specs.Symbols.{shown, placed, symbols, start-of, kinds}
@@ -13,8 +13,8 @@ use Rattle.aadl.specs.Section.{keywords, names}
 use Rattle.aadl.specs.Encoding.{event-in}
 use Rattle.aadl.specs.Reading.{reading, events, pushed, too-deep}
 use Rattle.aadl.specs.Answers.{tokens-answer, section-answer, left-in}
-use Rattle.aadl.specs.Listing.{event-line, event-lines, listing}
+use Rattle.aadl.specs.Listing.{column, event-line, event-lines, listing}
 
 unfoldable pub definitions : Unit {0}
-unfolding best read events-of taken erring spell words table kind-of-word table-3-7 sequence ill-formed-after run run-end quoted string-of exponent-end based number-from number-of word-of marks mark-of token-of tokens-after tokens shown placed symbols start-of kinds keywords names reading events pushed too-deep event-in tokens-answer section-answer left-in event-line event-lines listing
+unfolding best read events-of taken erring spell words table kind-of-word table-3-7 sequence ill-formed-after scalars-after run run-end quoted string-of exponent-end based number-from number-of word-of marks mark-of token-of tokens-after tokens shown placed symbols start-of kinds keywords names reading events pushed too-deep event-in tokens-answer section-answer left-in column event-line event-lines listing
 definitions = tt

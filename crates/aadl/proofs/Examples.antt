@@ -16,7 +16,7 @@ use Rattle.aadl.specs.Tokens.{token, tokens}
 use Rattle.aadl.specs.Symbols.{symbols}
 use Rattle.aadl.specs.Reading.{events}
 use Rattle.aadl.specs.Answers.{section-answer, answered, refused}
-use Rattle.aadl.specs.Listing.{listing}
+use Rattle.aadl.specs.Listing.{column, listing}
 use Rattle.aadl.proofs.Computing.{definitions}
 use Rattle.aadl.proofs.Asides.{is-message}
 
@@ -63,6 +63,25 @@ pub printed-listing :
     ≡ bytes "event,class,kind,last,line,column\n0,S,169,0,1,1\n1,T,60,1,1,1\n2,S,170,0,2,3\n3,S,171,0,2,3\n4,T,33,1,2,3\n5,F,0,0,2,5\n6,T,18,1,2,5\n7,S,183,0,2,8\n8,T,30,1,2,8\n9,T,33,1,2,10\n10,F,0,0,2,12\n11,T,5,1,2,12\n12,F,0,0,3,1\n13,F,0,0,3,1\n"
 unfolding definitions
 printed-listing = refl
+
+-- COLUMNS --------------------------------------------------------------------------------------------------------------
+
+-- Behind an umlaut, the euro sign, an emoji, a letter with a combining mark, a byte order mark, a tab; behind LF and CR LF. Bytes would
+-- count more, UTF-16 units two for the emoji, what is seen one for the letter with its mark.
+pub record Columns : Type 0 where
+  pub umlaut : column (bytes "M" ++ (0xC3 ∷ 0xBC ∷ bytes "hle")) ≡ 6
+  pub euro : column (0xE2 ∷ 0x82 ∷ 0xAC ∷ []) ≡ 2
+  pub emoji : column (0xF0 ∷ 0x9F ∷ 0x98 ∷ 0x80 ∷ []) ≡ 2
+  pub combining : column (bytes "e" ++ (0xCC ∷ 0x81 ∷ [])) ≡ 3
+  pub order-mark : column (0xEF ∷ 0xBB ∷ 0xBF ∷ []) ≡ 2
+  pub tab : column (9 ∷ []) ≡ 2
+  pub line-feed : column (bytes "A => 1;" ++ (0xC3 ∷ 0xBC ∷ 10 ∷ [])) ≡ 1
+  pub return-and-feed : column (13 ∷ 10 ∷ 0xC3 ∷ 0xBC ∷ 13 ∷ []) ≡ 3
+
+pub columns : Columns
+unfolding definitions
+columns =
+    record { umlaut = refl; euro = refl; emoji = refl; combining = refl; order-mark = refl; tab = refl; line-feed = refl; return-and-feed = refl }
 
 -- REFUSALS -------------------------------------------------------------------------------------------------------------
 

@@ -16,8 +16,9 @@ use Rattle.aadl.specs.Symbols.{symbols, start-of}
 use Rattle.aadl.specs.Tokens.{kind-in}
 use Rattle.aadl.specs.Encoding.{fields, event-word, event-by, event-in, class-in, last-in}
 use Rattle.aadl.specs.Reading.{events}
-use Rattle.aadl.specs.Answers.{section-answer}
-use Rattle.aadl.specs.Listing.{decimal, line-after, column-after, row, letter, event-line, event-lines, listing}
+use Rattle.aadl.specs.Listing.{decimal, line-after, column, row, letter, event-line, event-lines, listing-answer, listing}
+use Rattle.aadl.proofs.Characters.{Well-formed}
+use Rattle.aadl.proofs.WholeCharacters.{text-before-token}
 use Rattle.spots.specs.declared.Spot.{Spot}
 use Rattle.writing.proofs.DecimalLaws.{decimal-length}
 use Rattle.lines.specs.Lines.{header, line-of, refusal-line, first-line, line-room}
@@ -40,21 +41,21 @@ event-by-high w h = go (class-in w) h
     go (suc (suc (suc c))) h = refl
 
 event-line-is : (text : List ℕ) (n t : ℕ) (e : Event) → event-in (event-word e) ≡ e →
-    line-of n (event-word e) (line-after 1 (take (start-of text t) text)) (column-after 1 (take (start-of text t) text)) ≡ event-line text n t e
+    line-of n (event-word e) (line-after 1 (take (start-of text t) text)) (column (take (start-of text t) text)) ≡ event-line text n t e
 unfolding line-of event-line
 event-line-is text n t e w =
     let bs = take (start-of text t) text in
-    ap (λ (f : Event). row (decimal n ∷ letter f ∷ decimal (fields f .1) ∷ decimal (fields f .2) ∷ decimal (line-after 1 bs) ∷ decimal (column-after 1 bs) ∷ [])) w
+    ap (λ (f : Event). row (decimal n ∷ letter f ∷ decimal (fields f .1) ∷ decimal (fields f .2) ∷ decimal (line-after 1 bs) ∷ decimal (column bs) ∷ [])) w
 
--- the same where the line and the column are those of the spot that a walk from the text's first place reaches
-pub event-line-at : (text : List ℕ) (n t : ℕ) (e : Event) (s : Spot) → event-in (event-word e) ≡ e → length text < 4294967295 → s ≡ spot-after text first (start-of text t) →
-    line-of n (event-word e) (s .line) (s .column) ≡ event-line text n t e
-event-line-at text n t e s w h q =
-    let p = q ∙ spot-of text (start-of text t) h in
+-- the same where the line and the column are those of the spot that a walk from the first place of a well-formed text reaches
+pub event-line-at : (text : List ℕ) (n t : ℕ) (e : Event) (s : Spot) → event-in (event-word e) ≡ e → length text < 4294967295 →
+    Well-formed text → s ≡ spot-after text first (start-of text t) → line-of n (event-word e) (s .line) (s .column) ≡ event-line text n t e
+event-line-at text n t e s w h f q =
+    let p = q ∙ spot-of text (start-of text t) h (text-before-token text t f) in
     (λ i. line-of n (event-word e) (p i .line) (p i .column)) ∙ event-line-is text n t e w
 
 -- The whole listing, by the section call's answer: its first line, and the events' lines of an answer that refuses nothing.
-pub listing-is : (limits : Limits) (text : List ℕ) (a : Answer) → a ≡ section-answer limits text 16384 8192 →
+pub listing-is : (limits : Limits) (text : List ℕ) (a : Answer) → a ≡ listing-answer limits text →
     listing limits text ≡ cond (eqb (a .number) 0) (header ++ event-lines text 0 0 (events limits (symbols text))) (refusal-line (a .number) (a .place))
 unfolding listing header refusal-line
 listing-is limits text a e =

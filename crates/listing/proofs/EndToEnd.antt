@@ -14,7 +14,8 @@ use Rattle.aadl.specs.declared.Answer.{Answer}
 use Rattle.aadl.specs.declared.Limits.{Limits}
 use Rattle.aadl.specs.Limits.{Allowed}
 use Rattle.aadl.specs.Answers.{section-checks, all-answered, refused, section-answer}
-use Rattle.aadl.specs.Listing.{listing}
+use Rattle.aadl.specs.Encoding.{room}
+use Rattle.aadl.specs.Listing.{lent-tokens, lent-events, listing-answer, listing}
 use Rattle.aadl.proofs.Lists.{Each}
 use Rattle.aadl.proofs.AnswerLaws.{too-long}
 use Rattle.aadl.proofs.Settled.{five-numbers, Answered-whole, Refused-first}
@@ -35,8 +36,8 @@ use Rattle.listing.proofs.PieceLaws.{piece-more, pieces, pieces-are-all
 abbrev pub answer-lines : (text ts es : List ℕ) → Answer → Position → List (List ℕ)
 answer-lines text ts es a k = first-line a ∷ lines-from (input text (take (a .tokens) ts)) 0 (take (a .events) es) k
 
-module _ {limits : Limits} {text old last : List ℕ} {a : Answer} {ts es : List ℕ} (c : Called limits text old last a ts es) (h : Allowed limits) (m : length old ≡ 16384) (n : length last ≡ 8192) where
-  answer-is : a ≡ section-answer limits text 16384 8192
+module _ {limits : Limits} {text old last : List ℕ} {a : Answer} {ts es : List ℕ} (c : Called limits text old last a ts es) (h : Allowed limits) (m : length old ≡ lent-tokens) (n : length last ≡ lent-events) where
+  answer-is : a ≡ listing-answer limits text
   answer-is = c .answer ∙ (λ i. section-answer limits text (m i) (n i))
 
   read-listed : (k : Position) → k ≡ begin (input text (take (a .tokens) ts)) → Answered-whole five-numbers (checks limits text old last) (all-answered limits text) a (buffers limits text old last ts es) → joined (answer-lines text ts es a k) ≡ listing limits text
@@ -67,7 +68,7 @@ module _ (limits : Limits) where
   long-listed : (text : List ℕ) → limits .bytes < length text → listing limits text ≡ refusal-line 1 (limits .bytes)
   unfolding section-answer
   long-listed text h =
-      listing-is limits text (refused 1 (limits .bytes)) (sym (too-long limits text 16384 (section-checks limits text 8192) (all-answered limits text) h))
+      listing-is limits text (refused 1 (limits .bytes)) (sym (too-long limits text lent-tokens (section-checks limits text (room lent-events)) (all-answered limits text) h))
 
   -- So a text's first bytes, more than may be, have the listing of the whole.
   pub first-bytes-listed : (text : List ℕ) (n : ℕ) → limits .bytes < n → listing limits (take n text) ≡ listing limits text

@@ -16,8 +16,9 @@ use Rattle.aadl.specs.Limits.{Allowed}
 use Rattle.aadl.specs.Symbols.{is-trivia, symbols, start-of}
 use Rattle.aadl.specs.Encoding.{event-word, event-by, event-in, class-in, last-in}
 use Rattle.aadl.specs.Reading.{events}
-use Rattle.aadl.specs.Answers.{section-answer, token-words, event-words}
-use Rattle.aadl.specs.Listing.{event-lines, listing}
+use Rattle.aadl.specs.Answers.{token-words, event-words}
+use Rattle.aadl.specs.Listing.{event-lines, lent-tokens, lent-events, listing-answer, listing}
+use Rattle.aadl.proofs.Characters.{Well-formed}
 use Rattle.aadl.proofs.EventWords.{words-tell-events}
 use Rattle.aadl.proofs.AnswerDerived.{answered-whole}
 use Rattle.parser.specs.declared.Parser.{Parser}
@@ -100,7 +101,7 @@ pub record Stands (text : List ℕ) (t : ℕ) (c : Position) : Type 0 where
   pub behind : Behind text t (c .parser)
   pub spot : c .spot ≡ spot-after text first (start-of text t)
 
-module _ (text : List ℕ) (short : length text < 65536) where
+module _ (text : List ℕ) (short : length text < 65536) (formed : Well-formed text) where
   abbrev inp : Input
   inp = input text (token-words text)
 
@@ -147,16 +148,16 @@ module _ (text : List ℕ) (short : length text < 65536) where
       let w = event-word e in
       let r : event-in w ≡ e = ap (λ (l : List Event). getD l 0 e) q in
       ap₂ _++_
-      (event-line-at text n t e (c .spot) r (omega (arith, short)) (x .spot))
+      (event-line-at text n t e (c .spot) r (omega (arith, short)) formed (x .spot))
       (lines-are es (suc n) (t + taken (e ∷ [])) (step inp w c) (step-stands e t c r x) (ap (drop 1) q))
 
 -- The header and the lines of an answer's event words, from the first position on, are the listing.
-pub listing-of-answer : (limits : Limits) (text : List ℕ) → Allowed limits → section-answer limits text 16384 8192 .number ≡ 0 →
+pub listing-of-answer : (limits : Limits) (text : List ℕ) → Allowed limits → listing-answer limits text .number ≡ 0 →
     header ++ joined (lines-from (input text (token-words text)) 0 (event-words limits text) (begin (input text (token-words text)))) ≡ listing limits text
 listing-of-answer limits text h z =
-    let x = answered-whole limits text 16384 8192 z in
+    let x = answered-whole limits text lent-tokens lent-events z in
     let es = events limits (symbols text) in
     let short : length text < 65536 = omega (arith, x .short, h) in
-    let l = lines-are text short es 0 0 (begin (input text (token-words text))) (begin-stands text short) (words-tell-events limits text (x .deep) (omega (arith, x .few))) in
+    let l = lines-are text short (x .formed) es 0 0 (begin (input text (token-words text))) (begin-stands text short (x .formed)) (words-tell-events limits text (x .deep) (omega (arith, x .few))) in
     ap (λ (ls : List ℕ). header ++ ls) l
-    ∙ sym (listing-is limits text (section-answer limits text 16384 8192) refl ∙ rw (eq-eqb _ 0 z) refl)
+    ∙ sym (listing-is limits text (listing-answer limits text) refl ∙ rw (eq-eqb _ 0 z) refl)

@@ -18,7 +18,8 @@ ghost use Prim.Native.Nat.{_-_, _≤_};
 ghost use mathlib.Core.Path.{_≡_};
 ghost use lib.ListN.{length, take, drop};
 ghost use Rattle.aadl.specs.Limits.{base, Allowed};
-ghost use Rattle.aadl.specs.Answers.{section-answer, token-words, event-words, left-in};
+ghost use Rattle.aadl.specs.Answers.{token-words, event-words, left-in};
+ghost use Rattle.aadl.specs.Listing.{listing-answer};
 ghost use Rattle.parser.specs.Input.{input};
 ghost use Rattle.listing.specs.Positions.{begin as begin-at, step, lines-from};
 ghost use Rattle.listing.specs.Pieces.{left, before, given, Gave, Lists-within, Lists};
@@ -191,9 +192,9 @@ fn begin_within(
     limits: Limits,
 ) -> Listing
     requires { ⌜ Allowed limits ⌝ }
-    ensures stands { λ r. ⌜ r ≡ before (now (text .entry)) bytes (now (tokens .exit)) (section-answer limits (take bytes (now (text .entry))) 16384 8192) ⌝ }
-    ensures token_words { λ r. ⌜ now (tokens .exit) ≡ left-in (section-answer limits (take bytes (now (text .entry))) 16384 8192) (token-words (take bytes (now (text .entry)))) (now (tokens .entry)) ⌝ }
-    ensures event_words { λ r. ⌜ now (events .exit) ≡ left-in (section-answer limits (take bytes (now (text .entry))) 16384 8192) (event-words limits (take bytes (now (text .entry)))) (now (events .entry)) ⌝ }
+    ensures stands { λ r. ⌜ r ≡ before (now (text .entry)) bytes (now (tokens .exit)) (listing-answer limits (take bytes (now (text .entry)))) ⌝ }
+    ensures token_words { λ r. ⌜ now (tokens .exit) ≡ left-in (listing-answer limits (take bytes (now (text .entry)))) (token-words (take bytes (now (text .entry)))) (now (tokens .entry)) ⌝ }
+    ensures event_words { λ r. ⌜ now (events .exit) ≡ left-in (listing-answer limits (take bytes (now (text .entry)))) (event-words limits (take bytes (now (text .entry)))) (now (events .entry)) ⌝ }
     ensures lists { λ r. ⌜ Lists-within limits (now (text .entry)) bytes (now (tokens .exit)) (now (events .exit)) r ⌝ }
 {
     let text: &[u8] = text;
@@ -220,9 +221,9 @@ pub fn begin(
     tokens: &mut [u32; TOKENS],
     events: &mut [u32; EVENTS],
 ) -> Listing
-    ensures stands { λ r. ⌜ r ≡ before (now (text .entry)) bytes (now (tokens .exit)) (section-answer base (take bytes (now (text .entry))) 16384 8192) ⌝ }
-    ensures token_words { λ r. ⌜ now (tokens .exit) ≡ left-in (section-answer base (take bytes (now (text .entry))) 16384 8192) (token-words (take bytes (now (text .entry)))) (now (tokens .entry)) ⌝ }
-    ensures event_words { λ r. ⌜ now (events .exit) ≡ left-in (section-answer base (take bytes (now (text .entry))) 16384 8192) (event-words base (take bytes (now (text .entry)))) (now (events .entry)) ⌝ }
+    ensures stands { λ r. ⌜ r ≡ before (now (text .entry)) bytes (now (tokens .exit)) (listing-answer base (take bytes (now (text .entry)))) ⌝ }
+    ensures token_words { λ r. ⌜ now (tokens .exit) ≡ left-in (listing-answer base (take bytes (now (text .entry)))) (token-words (take bytes (now (text .entry)))) (now (tokens .entry)) ⌝ }
+    ensures event_words { λ r. ⌜ now (events .exit) ≡ left-in (listing-answer base (take bytes (now (text .entry)))) (event-words base (take bytes (now (text .entry)))) (now (events .entry)) ⌝ }
     ensures lists { λ r. ⌜ Lists (now (text .entry)) bytes (now (tokens .exit)) (now (events .exit)) r ⌝ }
 {
     begin_within(text, bytes, tokens, events, BASE)

@@ -10,18 +10,16 @@ use lib.ListN.{length, take, drop, getD, length-take}
 use lib.Seq.{drop-cons, drop-drop, take-add}
 use lib.Dec.{eqb, leb}
 use borrow.Author.Tests.{leb-true, leb-false}
-use Rattle.aadl.specs.Listing.{line-after, column-after}
+use Rattle.aadl.specs.Listing.{line-after, column}
+use Rattle.aadl.proofs.Characters.{Well-formed}
 use Rattle.writing.proofs.LeastLaws.{take-within}
 use Rattle.spots.specs.declared.Spot.{Spot}
-use Rattle.spots.specs.Spots.{capped, first, between, spot-after}
+use Rattle.spots.specs.Spots.{column-behind, column-after, capped, first, between, spot-after}
+use Rattle.spots.proofs.ColumnLaws.{column-after-append, column-within, column-capped, column-counted}
 
 line-after-append : (l : ℕ) (xs ys : List ℕ) → line-after l (xs ++ ys) ≡ line-after (line-after l xs) ys
 line-after-append l [] ys = refl
 line-after-append l (x ∷ xs) ys = line-after-append (cond (eqb x 10) (suc l) l) xs ys
-
-column-after-append : (c : ℕ) (xs ys : List ℕ) → column-after c (xs ++ ys) ≡ column-after (column-after c xs) ys
-column-after-append c [] ys = refl
-column-after-append c (x ∷ xs) ys = column-after-append (cond (eqb x 10) 1 (suc c)) xs ys
 
 -- A BOUND AND A CAP ----------------------------------------------------------------------------------------------------
 
@@ -33,14 +31,6 @@ line-within l (b ∷ bs) = go (eqb b 10) (line-within (cond (eqb b 10) (suc l) l
     go true h = omega arith
     go false h = omega arith
 
-column-within : (c : ℕ) (bs : List ℕ) → column-after c bs ≤ c + length bs
-column-within c [] = omega arith
-column-within c (b ∷ bs) = go (eqb b 10) (column-within (cond (eqb b 10) 1 (suc c)) bs)
-  where
-    go : (t : Bool) {n : ℕ} → n ≤ cond t 1 (suc c) + length bs → n ≤ c + suc (length bs)
-    go true h = omega arith
-    go false h = omega arith
-
 -- what is past the cap does not show later
 line-capped : (l m : ℕ) (bs : List ℕ) → capped l ≡ capped m → capped (line-after l bs) ≡ capped (line-after m bs)
 line-capped l m [] e = e
@@ -49,14 +39,6 @@ line-capped l m (b ∷ bs) e = line-capped (cond (eqb b 10) (suc l) l) (cond (eq
     go : (t : Bool) → capped (cond t (suc l) l) ≡ capped (cond t (suc m) m)
     go true = omega arith
     go false = e
-
-column-capped : (c d : ℕ) (bs : List ℕ) → capped c ≡ capped d → capped (column-after c bs) ≡ capped (column-after d bs)
-column-capped c d [] e = e
-column-capped c d (b ∷ bs) e = column-capped (cond (eqb b 10) 1 (suc c)) (cond (eqb b 10) 1 (suc d)) bs (go (eqb b 10))
-  where
-    go : (t : Bool) → capped (cond t 1 (suc c)) ≡ capped (cond t 1 (suc d))
-    go true = refl
-    go false = omega arith
 
 -- BYTES BETWEEN PLACES -------------------------------------------------------------------------------------------------
 
@@ -92,7 +74,7 @@ walking-starts text end from line column h g = record { lines = refl; columns = 
 
 module _ {text : List ℕ} {end from line₀ column₀ at line column : ℕ} (w : Walking text end from line₀ column₀ at line column) where
   pub walking-more : (l c : ℕ) → at < end → end ≤ length text → l ≡ capped (line-after line (getD text at 0 ∷ [])) →
-      c ≡ capped (column-after column (getD text at 0 ∷ [])) →
+      c ≡ capped (column-behind column (getD text at 0)) →
       Walking text end from line₀ column₀ (at + 1) l c
   walking-more l c h g p q =
       let b = getD text at 0 in
@@ -103,7 +85,7 @@ module _ {text : List ℕ} {end from line₀ column₀ at line column : ℕ} (w 
             line-capped l (line-after line (b ∷ [])) rest (omega (arith, p))
             ∙ sym (ap (λ (bs : List ℕ). capped (line-after line bs)) s) ∙ w .lines;
         columns =
-            column-capped c (column-after column (b ∷ [])) rest (omega (arith, q))
+            column-capped c (column-behind column b) rest (omega (arith, q))
             ∙ sym (ap (λ (bs : List ℕ). capped (column-after column bs)) s) ∙ w .columns;
         line-small = omega (arith, p);
         column-small = omega (arith, q);
@@ -149,11 +131,12 @@ spot-in-steps text s p q h =
     ∙ ap capped (sym (column-after-append (s .column) xs ys) ∙ ap (column-after (s .column)) (sym d)) in
     λ t. record { place = m t; line = l t; column = c t }
 
--- From the text's first place on: the listing's line and column, of a text whose length is below the cap.
-pub spot-of : (text : List ℕ) (p : ℕ) → length text < 4294967295 →
-    spot-after text first p ≡ record { place = min p (length text); line = line-after 1 (take p text); column = column-after 1 (take p text) }
+-- From the text's first place on: the listing's line and column of a place, where the text's length is below the cap and the bytes before
+-- the place are well-formed.
+pub spot-of : (text : List ℕ) (p : ℕ) → length text < 4294967295 → Well-formed (take p text) →
+    spot-after text first p ≡ record { place = min p (length text); line = line-after 1 (take p text); column = column (take p text) }
 unfolding spot-after first
-spot-of text p h =
+spot-of text p h e =
     let j = min p (length text) in
     let bs = take p text in
     let n = length-take p text in
@@ -161,4 +144,6 @@ spot-of text p h =
     let d : take (j - 0) text ≡ bs = ap (λ (k : ℕ). take k text) (sub-zero j) ∙ take-within p text in
     let l : capped (line-after 1 bs) ≡ line-after 1 bs = omega (arith, line-within 1 bs) in
     let c : capped (column-after 1 bs) ≡ column-after 1 bs = omega (arith, column-within 1 bs) in
-    λ t. record { place = m t; line = (ap (λ (xs : List ℕ). capped (line-after 1 xs)) d ∙ l) t; column = (ap (λ (xs : List ℕ). capped (column-after 1 xs)) d ∙ c) t }
+    let line-is = ap (λ (xs : List ℕ). capped (line-after 1 xs)) d ∙ l in
+    let column-is = ap (λ (xs : List ℕ). capped (column-after 1 xs)) d ∙ c ∙ column-counted bs e in
+    λ t. record { place = m t; line = line-is t; column = column-is t }

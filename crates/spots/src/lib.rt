@@ -3,8 +3,9 @@ use writing::least;
 ghost use Prim.Native.Nat.{_+_};
 ghost use mathlib.Core.Path.{_≡_};
 ghost use mathlib.Core.List.{[], _∷_};
-ghost use Rattle.aadl.specs.Listing.{line-after, column-after};
-ghost use Rattle.spots.specs.Spots.{capped, first, spot-after};
+ghost use Rattle.aadl.specs.Utf8.{is-continuation};
+ghost use Rattle.aadl.specs.Listing.{line-after};
+ghost use Rattle.spots.specs.Spots.{column-behind, capped, first, spot-after};
 
 // A place in a text, with its line and column.
 pub struct Spot {
@@ -27,11 +28,25 @@ fn line_behind(line: u32, b: u8) -> u32
     if b == b'\n' { one_more(line) } else { line }
 }
 
-// The column behind a byte.
-fn column_behind(column: u32, b: u8) -> u32
-    ensures { λ r. ⌜ r ≡ capped (column-after column (b ∷ [])) ⌝ }
+// Whether a byte continues a UTF-8 sequence.
+fn is_continuation(b: u8) -> bool
+    ensures { λ r. ⌜ r ≡ is-continuation b ⌝ }
 {
-    if b == b'\n' { 1 } else { one_more(column) }
+    (0x80 <= b) & (b <= 0xBF)
+}
+
+// The column behind a byte. A character is counted with its first one.
+fn column_behind(column: u32, b: u8) -> u32
+    ensures { λ r. ⌜ r ≡ capped (column-behind column b) ⌝ }
+{
+    if b == b'\n' {
+        return 1;
+    }
+    if is_continuation(b) {
+        column
+    } else {
+        one_more(column)
+    }
 }
 
 // The text's first place: line and column count from 1.

@@ -7,7 +7,7 @@ use Prim.Native.Nat.{ℕ}
 use lib.ListN.{length, take}
 use lib.Seq.{length-take-le}
 use Rattle.aadl.specs.Answers.{section-answer, token-words, event-words, left-in}
-use Rattle.aadl.specs.Listing.{listing}
+use Rattle.aadl.specs.Listing.{lent-tokens, lent-events, listing}
 use Rattle.writing.proofs.LeastLaws.{take-least}
 use Rattle.parser.specs.Input.{input}
 use Rattle.section.proofs.Demands.{Called}
@@ -47,8 +47,8 @@ returns c =
     let src = take (at-least .least .result) (x .text .now) in
     let long = at-text .text .given .0 in
     let s = take-least _ (x .bytes) _ (x .text .now) (at-least .least .ensures) long in
-    let m : length (x .tokens .now) ≡ 16384 = at-tokens .property-section-within-arg .given .0 .1 in
-    let n : length (x .events .now) ≡ 8192 = at-events .property-section-within-arg2 .given .0 .1 in
+    let m : length (x .tokens .now) ≡ lent-tokens = at-tokens .property-section-within-arg .given .0 .1 in
+    let n : length (x .events .now) ≡ lent-events = at-events .property-section-within-arg2 .given .0 .1 in
     let t = take-least _ (a .tokens) _ ts (at-least2 .least2 .ensures) (r .kept .1 .0 ∙ m) in
     let called : Called (x .limits) src (x .tokens .now) (x .events .now) a ts es = record { answer = r .ensures .0; token-words-left = r .ensures .1 .0; event-words-left = r .ensures .1 .1 .0 } in
     let position-is = k .ensures ∙ ap (λ (l : List ℕ). begin (input src l)) t in
