@@ -23,7 +23,7 @@ extern "C" {
 #endif
 
 #define GIGBODA_VERSION_MAJOR 0
-#define GIGBODA_VERSION_MINOR 3
+#define GIGBODA_VERSION_MINOR 4
 #define GIGBODA_VERSION_PATCH 0
 #define GIGBODA_QUOTED_NUMBERS(major, minor, patch) #major "." #minor "." #patch
 #define GIGBODA_QUOTED(major, minor, patch) GIGBODA_QUOTED_NUMBERS(major, minor, patch)
@@ -201,14 +201,15 @@ static inline struct gigboda_part gigboda_token_part(const char *text, size_t te
 
 /* ---- Places ---- */
 
-/* Line and column, both from 1. LF ends a line. */
+/* Line and column, both from 1. LF ends a line, and a column is 1 plus the characters (Unicode scalar values) since the last LF. */
 struct gigboda_position {
     size_t line;
     size_t column;
 };
 
-/* Where a place is, a byte of the text from 0; the text's end for any place behind it. Columns are bytes. It goes through the text up to
- * the place. */
+/* Where a place is, a byte of the text from 0; the text's end for any place behind it. It goes through the text up to the place and counts,
+ * as `list` does, bytes that continue no UTF-8 sequence: so a place within a character is that of the next one, and in bytes that are no
+ * UTF-8 each such byte counts one. */
 static inline struct gigboda_position gigboda_position_of(const char *text, size_t text_len, size_t place)
 {
     struct gigboda_position at;
@@ -217,10 +218,11 @@ static inline struct gigboda_position gigboda_position_of(const char *text, size
     at.line = 1;
     at.column = 1;
     for (i = 0; i < place && i < text_len; i++) {
-        at.column++;
         if (text[i] == '\n') {
             at.line++;
             at.column = 1;
+        } else if (((unsigned char)text[i] & 0xC0) != 0x80) {
+            at.column++;
         }
     }
     return at;

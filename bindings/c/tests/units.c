@@ -282,6 +282,19 @@ static void places_have_lines_and_columns(void)
     check_position(section, 25, 4, 1);
     check_position(section, 99, 4, 1);
     check_position("", 0, 1, 1);
+    /* an umlaut, the euro sign, an emoji; CR LF; a combining mark and a byte order mark */
+    section = "\xC3\xBC\xE2\x82\xAC\xF0\x9F\x98\x80!\r\ne\xCC\x81\xEF\xBB\xBF!";
+    check_position(section, 2, 1, 2);
+    check_position(section, 5, 1, 3);
+    check_position(section, 9, 1, 4);
+    check_position(section, 10, 1, 5);
+    check_position(section, 12, 2, 1);
+    check_position(section, 13, 2, 2);
+    check_position(section, 15, 2, 3);
+    check_position(section, 18, 2, 4);
+    /* within a character: where the next one is */
+    check_position(section, 1, 1, 2);
+    check_position(section, 7, 1, 4);
 }
 
 static int is_clean(const char *section)

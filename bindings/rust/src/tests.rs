@@ -168,7 +168,7 @@ fn places_have_lines_and_columns() {
     assert_eq!(at(10), "line 1, column 11");
     assert_eq!(at(11), "line 2, column 1");
     assert_eq!(at(18), "line 2, column 8");
-    assert_eq!(at(22), "line 2, column 12");
+    assert_eq!(at(22), "line 2, column 11");
     assert_eq!(at(24), "line 3, column 1");
     assert_eq!((at(25), at(99)), ("line 4, column 1".to_string(), "line 4, column 1".to_string()));
     assert_eq!(position(b"", 0), Position { line: 1, column: 1 });

@@ -1,8 +1,9 @@
 //! Texts from words in any order, mostly those that make chains and openers; the same in every run.
 
-const WORDS: [&str; 29] = [
+const WORDS: [&str; 30] = [
     "1", "2 ms", "a", "a::b", "1.5", "\"s\"", "+", "*", "-", "/", "..", "delta", "not", "(", ")", "[", "]", "[b =>", "; ]", ",", ";",
     ";\nA =>", "in modes (m)", "applies to x.y[1]", "classifier (p::q (r => in data s))", "reference (x)", "0x1F", "-- note\n", "ä",
+    "\"€ 😀\u{301}\"\r\n",
 ];
 
 pub fn texts(count: usize) -> Vec<String> {
