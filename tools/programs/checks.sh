@@ -129,7 +129,8 @@ tree() {
     extended 1 4294967295 "$@"
 }
 
-# The listing of `text` by 01's rule, from its bytes and the words of the answer to a record.
+# The listing of `text` by 01's rule, from its bytes and the words of the answer to a record: columns go from character to character, each as
+# long as its first byte says.
 listing() {
     { od -An -v -tu1 "$text"; record 16384 8192 | "$reference"; } | awk '
         /^ *[0-9]/ { for (i = 1; i <= NF; i++) byte[bytes++] = $i }
@@ -137,7 +138,8 @@ listing() {
         $1 == "tokens" { line = column = 1
             for (i = 2; i <= NF; i++) { kind = int($i / 65536)
                 if (kind != 3 && kind != 4) spot[++spots] = line "," column
-                for (end += $i % 65536; at < end; at++) if (byte[at] == 10) { line++; column = 1 } else column++ }
+                for (end += $i % 65536; at < end; at += b < 128 ? 1 : b < 224 ? 2 : b < 240 ? 3 : 4) { b = byte[at]
+                    if (b == 10) { line++; column = 1 } else column++ } }
             spot[++spots] = line "," column }
         $1 == "events" { next_spot = 1
             for (i = 2; i <= NF; i++) { class = int($i / 16777216)

@@ -59,8 +59,12 @@ lists_around_a_piece() {
 }
 
 test_texts() {
-    cp "$sample" "$text"
-    lists "$sample"
+    for sample_text in samples/*.aadl; do
+        cp "$sample_text" "$text"
+        lists "$sample_text"
+    done
+    cp samples/characters.listing "$to/want"
+    gives "the kept listing of many characters" "$list" samples/characters.aadl
     while read -r known format; do
         printf -- "$format" > "$text"
         lists "the text '$format'" "$known"
@@ -83,6 +87,8 @@ refused,2,0 \377\376p\000
 15 properties\r\n\tA => 1 ms;\r\n
 12 properties -- M\303\274hle\n\n A\t=> \342\200\2341;
 18 properties -- \303\244\n  A => "\303\274",  -- x\r\n\t1; \303\266
+26 properties A => "\342\202\254\360\237\230\200", "e\314\201",\r\n\t"\357\273\277", 1; \360\237\230\200 B
+14 properties A => "\302\205\342\200\250" ;
 END
     lists_around_a_piece
     group "texts"
