@@ -44,7 +44,7 @@ table-in-order = refl
 abbrev Shape : (b : ℕ) → List ℕ → (length : ℕ) → Type 0
 Shape b bs n = (is-continuation b ≡ false) × (Each Continues (take (n - 1) bs))
 
-bounds : (low high b : ℕ) → (leb low b && leb b high) ≡ true → (low ≤ b) × (b ≤ high)
+pub bounds : (low high b : ℕ) → (leb low b && leb b high) ≡ true → (low ≤ b) × (b ≤ high)
 bounds low high b e = (leb-true low b (and-l (leb low b) (leb b high) e), leb-true b high (and-r (leb low b) (leb b high) e))
 
 range-begins : (low high b : ℕ) → beginning (low to high) ≡ true → (leb low b && leb b high) ≡ true → is-continuation b ≡ false
@@ -220,7 +220,7 @@ well-formed-back text i e c = well-formed 0 (drop i text) (formed-back text 0 i 
 -- BYTES BELOW 128 ------------------------------------------------------------------------------------------------------
 
 pub low-continues-none : (b : ℕ) → b < 128 → Continues b → ⊥
-low-continues-none b h c = omega (arith, leb-true 0x80 b (and-l (leb 0x80 b) (leb b 0xBF) c))
+low-continues-none b h c = omega (arith, bounds 0x80 0xBF b c .0)
 
 pub low-passes : (b : ℕ) (bs : List ℕ) → b < 128 → Formed 0 (b ∷ bs) → Formed 0 bs
 low-passes b bs h f =

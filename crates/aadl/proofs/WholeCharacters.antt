@@ -12,8 +12,8 @@ use mathlib.Core.Bool.{Bool, true, false, not, _&&_, _||_, cond}
 use mathlib.Core.List.{List, [], _∷_, map}
 use lib.ListN.{length, getD, take, drop}
 use lib.Seq.{getD-drop}
-use lib.Dec.{eqb, ltb, leb}
-use borrow.Author.Tests.{eqb-true, ltb-true, leb-true, not-false}
+use lib.Dec.{eqb, ltb}
+use borrow.Author.Tests.{eqb-true, ltb-true, not-false}
 use Rattle.predictive.specs.Grammar.{stand}
 use Rattle.predictive.proofs.Tests.{never, and-l, and-r, or-cases}
 use Rattle.aadl.specs.declared.Token.{Token}
@@ -27,7 +27,7 @@ use Rattle.aadl.proofs.Bools.{cond-has}
 use Rattle.aadl.proofs.Lists.{every, Each}
 use Rattle.aadl.proofs.TokenBounds.{number-cases, token-cases}
 use Rattle.aadl.proofs.TokensCover.{tokens-step}
-use Rattle.aadl.proofs.Characters.{Formed, Well-formed, Between, formed, formed-begins, formed-back, between-end, low-passes, between-behind-low, well-formed-front}
+use Rattle.aadl.proofs.Characters.{bounds, Formed, Well-formed, Between, formed, formed-begins, formed-back, between-end, low-passes, between-behind-low, well-formed-front}
 
 -- CLASSES OF BYTES BELOW 128 -------------------------------------------------------------------------------------------
 
@@ -38,7 +38,7 @@ low-byte : (c : ℕ) → c < 128 → Low (λ b. eqb b c)
 low-byte c h b e = omega (arith, h, eqb-true b c e)
 
 low-within : (low high : ℕ) → high < 128 → Low (within low high)
-low-within low high h b e = omega (arith, h, leb-true b high (and-r (leb low b) (leb b high) e))
+low-within low high h b e = omega (arith, h, bounds low high b e .1)
 
 low-either : (p q : ℕ → Bool) → Low p → Low q → Low (λ b. p b || q b)
 low-either p q f g b e = ⊎-elim (f b) (g b) (or-cases (p b) (q b) e)

@@ -101,7 +101,7 @@ pub record Stands (text : List ℕ) (t : ℕ) (c : Position) : Type 0 where
   pub behind : Behind text t (c .parser)
   pub spot : c .spot ≡ spot-after text first (start-of text t)
 
-module _ (text : List ℕ) (short : length text < 65536) (formed : Well-formed text) where
+module _ (text : List ℕ) (short : length text < 65536) where
   abbrev inp : Input
   inp = input text (token-words text)
 
@@ -139,17 +139,17 @@ module _ (text : List ℕ) (short : length text < 65536) (formed : Well-formed t
       go finish r = rw r (subst (λ (u : ℕ). Stands text u c) (sym (add-zero t)) x)
       go (error m) r = rw r (subst (λ (u : ℕ). Stands text u c) (sym (add-zero t)) x)
 
-  -- Words that tell their events have the events' lines.
-  lines-are : (es : List Event) (n t : ℕ) (c : Position) → Stands text t c → map event-in (map event-word es) ≡ es →
+  -- Words that tell their events have the events' lines, in a text that is well-formed.
+  lines-are : Well-formed text → (es : List Event) (n t : ℕ) (c : Position) → Stands text t c → map event-in (map event-word es) ≡ es →
       joined (lines-from inp n (map event-word es) c) ≡ event-lines text n t es
   unfolding lines-from event-lines
-  lines-are [] n t c x q = refl
-  lines-are (e ∷ es) n t c x q =
+  lines-are f [] n t c x q = refl
+  lines-are f (e ∷ es) n t c x q =
       let w = event-word e in
       let r : event-in w ≡ e = ap (λ (l : List Event). getD l 0 e) q in
       ap₂ _++_
-      (event-line-at text n t e (c .spot) r (omega (arith, short)) formed (x .spot))
-      (lines-are es (suc n) (t + taken (e ∷ [])) (step inp w c) (step-stands e t c r x) (ap (drop 1) q))
+      (event-line-at text n t e (c .spot) r (omega (arith, short)) f (x .spot))
+      (lines-are f es (suc n) (t + taken (e ∷ [])) (step inp w c) (step-stands e t c r x) (ap (drop 1) q))
 
 -- The header and the lines of an answer's event words, from the first position on, are the listing.
 pub listing-of-answer : (limits : Limits) (text : List ℕ) → Allowed limits → listing-answer limits text .number ≡ 0 →
@@ -158,6 +158,6 @@ listing-of-answer limits text h z =
     let x = answered-whole limits text lent-tokens lent-events z in
     let es = events limits (symbols text) in
     let short : length text < 65536 = omega (arith, x .short, h) in
-    let l = lines-are text short (x .formed) es 0 0 (begin (input text (token-words text))) (begin-stands text short (x .formed)) (words-tell-events limits text (x .deep) (omega (arith, x .few))) in
+    let l = lines-are text short (x .formed) es 0 0 (begin (input text (token-words text))) (begin-stands text short) (words-tell-events limits text (x .deep) (omega (arith, x .few))) in
     ap (λ (ls : List ℕ). header ++ ls) l
     ∙ sym (listing-is limits text (listing-answer limits text) refl ∙ rw (eq-eqb _ 0 z) refl)
