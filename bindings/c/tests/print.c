@@ -4,6 +4,7 @@
  *     print walks           for each section record of standard input the call's answer, and the steps through its tree
  *     print trees           for each the tree call's answer, with half as many record words lent as event words where the record does not
  *                           say how many; and each node's record, text, children, and the innermost node of its first token
+ *     print places          for each the line and column of every place of its text
  *
  * tools/README.md says what a record is; those of the tokens-only call are passed over. */
 #include "gigboda.h"
@@ -85,6 +86,17 @@ static void print_tree(void)
         print_node(&tree, node);
 }
 
+static void print_places(void)
+{
+    size_t place;
+
+    for (place = 0; place <= length; place++) {
+        struct gigboda_position at = gigboda_position_of(text, length, place);
+
+        printf("%zu:%zu\n", at.line, at.column);
+    }
+}
+
 /* The record's next number, lowest byte first; 0 at the end. */
 static int read_number(uint32_t *number)
 {
@@ -135,6 +147,8 @@ int main(int count, char **arguments)
         return print_all(print_walk);
     if (count == 2 && strcmp(arguments[1], "trees") == 0)
         return print_all(print_tree);
+    if (count == 2 && strcmp(arguments[1], "places") == 0)
+        return print_all(print_places);
     print_tables();
     return fflush(stdout) != 0;
 }

@@ -30,6 +30,8 @@ static void check_same(const char *got, const char *wanted, int line)
 }
 #define CHECK_SAME(got, wanted) check_same((got), (wanted), __LINE__)
 
+#define COUNT(array) (sizeof(array) / sizeof((array)[0]))
+
 static struct gigboda_answer read_enough(const char *section)
 {
     return gigboda_read_section(section, strlen(section), tokens, GIGBODA_MOST_BYTES, events, GIGBODA_MOST_EVENTS);
@@ -262,39 +264,37 @@ static void more_than_most_events_words_do_not_help(void)
 
 /* ---- Places, clean answers ---- */
 
-static void check_position(const char *section, size_t place, size_t line, size_t column)
+/* Holds places of a text to their lines and columns, so many rows of place, line and column. */
+static void check_positions(const char *section, const size_t (*rows)[3], size_t count)
 {
-    struct gigboda_position at = gigboda_position_of(section, strlen(section), place);
+    size_t i;
 
-    sprintf(shown, "%zu is %zu:%zu", place, line, column);
-    check(at.line == line && at.column == column, shown, __LINE__);
+    for (i = 0; i < count; i++) {
+        struct gigboda_position at = gigboda_position_of(section, strlen(section), rows[i][0]);
+
+        sprintf(shown, "%zu is %zu:%zu", rows[i][0], rows[i][1], rows[i][2]);
+        check(at.line == rows[i][1] && at.column == rows[i][2], shown, __LINE__);
+    }
 }
 
 static void places_have_lines_and_columns(void)
 {
-    const char *section = "properties\n  A => 1 ms;\n\n";
+    static const size_t ascii[][3] = {{0, 1, 1}, {10, 1, 11}, {11, 2, 1}, {13, 2, 3}, {24, 3, 1}, {25, 4, 1}, {99, 4, 1}};
+    static const size_t empty[][3] = {{0, 1, 1}};
 
-    check_position(section, 0, 1, 1);
-    check_position(section, 10, 1, 11);
-    check_position(section, 11, 2, 1);
-    check_position(section, 13, 2, 3);
-    check_position(section, 24, 3, 1);
-    check_position(section, 25, 4, 1);
-    check_position(section, 99, 4, 1);
-    check_position("", 0, 1, 1);
-    /* an umlaut, the euro sign, an emoji; CR LF; a combining mark and a byte order mark */
-    section = "\xC3\xBC\xE2\x82\xAC\xF0\x9F\x98\x80!\r\ne\xCC\x81\xEF\xBB\xBF!";
-    check_position(section, 2, 1, 2);
-    check_position(section, 5, 1, 3);
-    check_position(section, 9, 1, 4);
-    check_position(section, 10, 1, 5);
-    check_position(section, 12, 2, 1);
-    check_position(section, 13, 2, 2);
-    check_position(section, 15, 2, 3);
-    check_position(section, 18, 2, 4);
-    /* within a character: where the next one is */
-    check_position(section, 1, 1, 2);
-    check_position(section, 7, 1, 4);
+    check_positions("properties\n  A => 1 ms;\n\n", ascii, COUNT(ascii));
+    check_positions("", empty, COUNT(empty));
+}
+
+/* An umlaut, the euro sign, an emoji; CR LF; a combining mark and a byte order mark. A place within a character is where the next one is. */
+static void columns_count_characters(void)
+{
+    static const size_t begins[][3] = {{2, 1, 2}, {5, 1, 3}, {9, 1, 4}, {10, 1, 5}, {12, 2, 1}, {13, 2, 2}, {15, 2, 3}, {18, 2, 4}};
+    static const size_t within[][3] = {{1, 1, 2}, {3, 1, 3}, {4, 1, 3}, {6, 1, 4}, {7, 1, 4}, {8, 1, 4}};
+    const char *section = "\xC3\xBC\xE2\x82\xAC\xF0\x9F\x98\x80!\r\ne\xCC\x81\xEF\xBB\xBF!";
+
+    check_positions(section, begins, COUNT(begins));
+    check_positions(section, within, COUNT(within));
 }
 
 static int is_clean(const char *section)
@@ -384,9 +384,9 @@ static void steps_say_where_they_are(void)
     struct gigboda_step step;
     size_t i;
 
-    for (i = 0; i < sizeof wanted / sizeof wanted[0] && gigboda_walk_next(&walk, &step); i++)
+    for (i = 0; i < COUNT(wanted) && gigboda_walk_next(&walk, &step); i++)
         CHECK_SAME(in_a_row(&step), wanted[i]);
-    CHECK(i == sizeof wanted / sizeof wanted[0] && !gigboda_walk_next(&walk, &step));
+    CHECK(i == COUNT(wanted) && !gigboda_walk_next(&walk, &step));
 }
 
 /* Walks through the tree of what stands in `text`; the greatest depth. Every event gives one step, also a Start whose node opens early. */
@@ -647,6 +647,7 @@ static const struct {
     TEST(with_most_bytes_token_words_no_text_is_refused_3),
     TEST(more_than_most_events_words_do_not_help),
     TEST(places_have_lines_and_columns),
+    TEST(columns_count_characters),
     TEST(what_is_clean),
     TEST(trees_are_walked),
     TEST(forward_parents_are_followed),
@@ -663,7 +664,7 @@ static const struct {
 
 int main(void)
 {
-    size_t count = sizeof tests / sizeof tests[0], failed = 0, i;
+    size_t count = COUNT(tests), failed = 0, i;
 
     for (i = 0; i < count; i++) {
         failures = 0;

@@ -1,5 +1,5 @@
-//! The C header against this crate: the same tables, and the same steps through the trees of the kept sections and of made ones, and what the
-//! trees' records say. The two walk in different ways: the header without memory, this crate with a list of the Starts that were used. cc
+//! The C header against this crate: the same tables, the same steps through the trees of the kept sections and of made ones, what the trees'
+//! records say, and the same lines and columns. The two walk in different ways: the header without memory, this crate with a list of the Starts that were used. cc
 //! builds bindings/c/tests/print.c.
 mod files;
 mod made;
@@ -117,21 +117,16 @@ fn tree_lines(record: &Record) -> String {
     }
 }
 
-/// The kept records, and records of made texts.
-fn input() -> Vec<u8> {
-    let mut bytes = files::bytes("crates/replay/stdin");
-    for text in made::texts(MADE) {
-        for number in [text.len() as u32, 2_000, 2_000] {
-            bytes.extend(number.to_le_bytes());
-        }
-        bytes.extend(text.bytes());
-    }
-    bytes
+/// A record of the section call.
+fn record_of(text: &[u8]) -> Vec<u8> {
+    let numbers = [text.len() as u32, 2_000, 2_000];
+    numbers.iter().flat_map(|number| number.to_le_bytes()).chain(text.iter().copied()).collect()
 }
 
-/// Holds what the C program prints for all sections against the lines for each.
+/// Holds what the C program prints for the kept sections and for made ones against the lines for each.
 fn the_same_for_sections(name: &str, what: &str, lines: fn(&Record) -> String) {
-    let input = input();
+    let made = made::texts(MADE).into_iter().flat_map(|text| record_of(text.as_bytes()));
+    let input: Vec<u8> = files::bytes("crates/replay/stdin").into_iter().chain(made).collect();
     let all = records(&input);
     let sections: Vec<&Record> = all.iter().filter(|record| record.is_section()).collect();
     let ours: String = sections.iter().map(|record| lines(record)).collect();
@@ -148,4 +143,17 @@ fn the_same_walks() {
 #[test]
 fn the_same_trees() {
     the_same_for_sections("print_trees", "trees", tree_lines);
+}
+
+/// Line and column of every place: of the sample whose listing is kept (columns.rs), of made texts, and of bytes that are no UTF-8.
+#[test]
+fn the_same_places() {
+    let mut texts: Vec<Vec<u8>> = made::texts(300).into_iter().map(String::into_bytes).collect();
+    texts.push(files::bytes("samples/characters.aadl"));
+    texts.push((0..=255).chain([b'\n']).chain((0..=255).rev()).collect());
+    let line = |at: Position| format!("{}:{}\n", at.line, at.column);
+    let lines = |text: &Vec<u8>| (0..=text.len()).map(|place| line(position(text, place))).collect::<String>();
+    let ours: String = texts.iter().map(lines).collect();
+    same_lines(&ours, &c_prints("print_places", "places", texts.iter().flat_map(|text| record_of(text)).collect()));
+    println!("{} places at the same lines and columns", ours.lines().count());
 }
