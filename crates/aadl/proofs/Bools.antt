@@ -1,11 +1,13 @@
--- Laws of tests: choices by them, two choices by one test, and a test made at every number below a bound, which a closed computation
--- decides. Each is proved by cases on the test or by induction on the bound. Assumes nothing.
-use Prim.Native.Nat.{ℕ, zero, suc, _<_}
+-- Laws of tests: choices by them, two choices by one test, a test for a range, and a test made at every number below a bound, which a closed
+-- computation decides. Each is proved by cases on the test or by induction on the bound. Assumes nothing.
+use Prim.Native.Nat.{ℕ, zero, suc, _≤_, _<_}
 use native.Mathlib.Nat.{le-of-suc-le-suc, not-suc-le-zero, eq-or-lt-of-le}
 use mathlib.Core.Path.{_≡_, refl, sym, subst}
 use mathlib.Core.Logic.{⊎-elim}
 use mathlib.Core.Bool.{Bool, true, false, _&&_, cond}
-use Rattle.predictive.proofs.Tests.{and-l, and-r}
+use lib.Dec.{leb}
+use borrow.Author.Tests.{leb-true, le-leb}
+use Rattle.predictive.proofs.Tests.{and-l, and-r, and-both}
 
 -- A choice has a property that each of its cases has, where the test is as the case says.
 pub cond-has {ℓ} : {A : Type ℓ} (P : A → Type 0) (t : Bool) (a b : A) → (t ≡ true → P a) → (t ≡ false → P b) → P (cond t a b)
@@ -29,6 +31,13 @@ module _ {A : Type 0} (Q : A → Type 0) where
       by-case : (s : Bool) → (s ≡ true → Q a → a′ ≡ a) → (s ≡ false → Q b → b′ ≡ b) → Q (cond s a b) → cond s a′ b′ ≡ cond s a b
       by-case true f g q = f refl q
       by-case false f g q = g refl q
+
+-- what a test for a range says, and what it asks
+pub bounds : (low high n : ℕ) → (leb low n && leb n high) ≡ true → (low ≤ n) × (n ≤ high)
+bounds low high n e = (leb-true low n (and-l (leb low n) (leb n high) e), leb-true n high (and-r (leb low n) (leb n high) e))
+
+pub within-bounds : (low high n : ℕ) → low ≤ n → n ≤ high → (leb low n && leb n high) ≡ true
+within-bounds low high n h k = and-both (leb low n) (leb n high) (le-leb low n h) (le-leb n high k)
 
 -- f at each number below n
 abbrev pub below : (ℕ → Bool) → ℕ → Bool

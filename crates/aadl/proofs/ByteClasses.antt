@@ -5,12 +5,12 @@ use native.Mathlib.Omega.{arith}
 use mathlib.Core.Path.{_≡_, refl, sym, ap, _∙_}
 use mathlib.Core.Logic.{⊎-elim}
 use mathlib.Core.Bool.{Bool, true, false, not, _&&_, _||_}
-use lib.Dec.{eqb, leb, ltb}
-use borrow.Author.Tests.{eqb-true, leb-true, le-leb, ltb-true, ltb-false, not-true}
+use lib.Dec.{eqb, ltb}
+use borrow.Author.Tests.{eqb-true, ltb-true, ltb-false, not-true}
 use Rattle.aadl.specs.Bytes.{within, is-digit, is-hex-digit, is-ident-start, is-ident-continue}
 use Rattle.aadl.specs.Tokens.{radix-digit}
-use Rattle.predictive.proofs.Tests.{never, and-l, and-r, and-both, or-cases, or-true-l, or-true-r}
-use Rattle.aadl.proofs.Bools.{false-unless, below-at}
+use Rattle.predictive.proofs.Tests.{never, and-l, and-r, or-cases, or-true-l, or-true-r}
+use Rattle.aadl.proofs.Bools.{false-unless, bounds, within-bounds, below-at}
 
 -- a byte outside a class is none of its bytes
 pub other-byte : (p : ℕ → Bool) (b c : ℕ) → p b ≡ false → p c ≡ true → eqb b c ≡ false
@@ -18,8 +18,8 @@ other-byte p b c e f = false-unless (eqb b c) (λ t. never (sym e ∙ ap p (eqb-
 
 pub within-more : (a b c d n : ℕ) → c ≤ a → b ≤ d → within a b n ≡ true → within c d n ≡ true
 within-more a b c d n h k e =
-    and-both (leb c n) (leb n d) (le-leb c n (omega (arith, leb-true a n (and-l (leb a n) (leb n b) e))))
-    (le-leb n d (omega (arith, leb-true n b (and-r (leb a n) (leb n b) e))))
+    let i = bounds a b n e in
+    within-bounds c d n (omega (arith, i .0)) (omega (arith, i .1))
 
 -- WORDS ----------------------------------------------------------------------------------------------------------------
 

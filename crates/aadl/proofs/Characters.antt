@@ -15,7 +15,7 @@ use borrow.Author.Tests.{eqb-true, eqb-false, leb-true, ltb-true, ltb-false}
 use Rattle.aadl.specs.Utf8.{Range, _to_, table-3-7, fits, fitting, sequence, ill-formed-after, ill-formed, scalars-after, is-continuation}
 use Rattle.aadl.specs.Bytes.{peek}
 use Rattle.predictive.proofs.Tests.{never, and-l, and-r, or-cases}
-use Rattle.aadl.proofs.Bools.{cond-has, false-unless}
+use Rattle.aadl.proofs.Bools.{cond-has, false-unless, bounds}
 use Rattle.aadl.proofs.Lists.{every, Each}
 use Rattle.aadl.proofs.ByteClasses.{within-more}
 use Rattle.aadl.proofs.Utf8Laws.{ascii-one, sequence-within}
@@ -43,9 +43,6 @@ table-in-order = refl
 -- Of a sequence of so many bytes, the first of which is b: where it begins and how it continues.
 abbrev Shape : (b : ℕ) → List ℕ → (length : ℕ) → Type 0
 Shape b bs n = (is-continuation b ≡ false) × (Each Continues (take (n - 1) bs))
-
-pub bounds : (low high b : ℕ) → (leb low b && leb b high) ≡ true → (low ≤ b) × (b ≤ high)
-bounds low high b e = (leb-true low b (and-l (leb low b) (leb b high) e), leb-true b high (and-r (leb low b) (leb b high) e))
 
 range-begins : (low high b : ℕ) → beginning (low to high) ≡ true → (leb low b && leb b high) ≡ true → is-continuation b ≡ false
 range-begins low high b e f =

@@ -2,6 +2,7 @@
 -- both sides of each of its lines are computed: no law is used. Assumes nothing.
 use Prim.Native.Nat.{ℕ}
 use mathlib.Core.Path.{_≡_, refl}
+use mathlib.Core.Logic.{inl, inr}
 use mathlib.Core.Bool.{Bool, true, false}
 use mathlib.Core.List.{List, [], _∷_, _++_}
 use lib.ListN.{getD, replicate}
@@ -9,10 +10,11 @@ use Rattle.predictive.specs.Forest.{Forest, nil, leaf, node, _then_, message}
 use Rattle.predictive.specs.Events.{start, finish, error, erring, any-fault}
 use Rattle.predictive.specs.Tree.{spell}
 use Rattle.aadl.specs.Limits.{Limits, base}
-use Rattle.aadl.specs.Kinds.{#_, ERROR, SEMICOLON, DOT-DOT, L-PAREN, R-PAREN, FAT-ARROW, PLUS, MINUS, STAR, INTEGER-LIT, REAL-LIT, STRING-LIT, IDENT, PROPERTIES-KW, APPLIES-KW, TO-KW, NOT-KW, IN-KW, OUT-KW, EVENT-KW, DATA-KW, PORT-KW, CLASSIFIER-KW}
+use Rattle.aadl.specs.Kinds.{#_, ERROR, SEMICOLON, DOT-DOT, L-PAREN, R-PAREN, FAT-ARROW, PLUS, MINUS, STAR, INTEGER-LIT, REAL-LIT, STRING-LIT, IDENT, MODES-KW, PROPERTIES-KW, APPLIES-KW, TO-KW, NOT-KW, IN-KW, OUT-KW, EVENT-KW, DATA-KW, PORT-KW, CLASSIFIER-KW}
 use Rattle.aadl.specs.Kinds.{DIRECTION, PROTOTYPE-BINDING, PROTOTYPE-BINDING-LIST, CLASSIFIER-REF, CLASSIFIER-VALUE, PROPERTY-SECTION, PROPERTY-ASSOCIATION, PROPERTY-REF, PROPERTY-EXPRESSION, BOOLEAN-VALUE, INTEGER-VALUE, RANGE-VALUE, BINARY-EXPR, APPLIES-TO, CONTAINMENT-PATH}
 use Rattle.aadl.specs.Words.{bytes}
 use Rattle.aadl.specs.Tokens.{token, tokens}
+use Rattle.aadl.specs.WordKinds.{Mixed, is-word}
 use Rattle.aadl.specs.Symbols.{symbols}
 use Rattle.aadl.specs.Reading.{events}
 use Rattle.aadl.specs.Answers.{section-answer, answered, refused}
@@ -63,6 +65,45 @@ pub printed-listing :
     ≡ bytes "event,class,kind,last,line,column\n0,S,169,0,1,1\n1,T,60,1,1,1\n2,S,170,0,2,3\n3,S,171,0,2,3\n4,T,33,1,2,3\n5,F,0,0,2,5\n6,T,18,1,2,5\n7,S,183,0,2,8\n8,T,30,1,2,8\n9,T,33,1,2,10\n10,F,0,0,2,12\n11,T,5,1,2,12\n12,F,0,0,3,1\n13,F,0,0,3,1\n"
 unfolding definitions
 printed-listing = refl
+
+-- WORDS ----------------------------------------------------------------------------------------------------------------
+
+-- A keyword in three mixes of case, before a mark, before a character outside ASCII and behind a digit, though not where a number takes its
+-- first letter; and words that are none of the eighty-one: a digit, `_` or a letter more, two letters fewer, and the Kelvin sign for a `k`,
+-- which belongs to no word.
+pub record Words-read : Type 0 where
+  pub mix : Mixed (bytes "modes") (bytes "Modes")
+  pub no-digit-first : is-word (bytes "2modes") ≡ false
+  pub capital : tokens (bytes "Modes") ≡ token (# MODES-KW) 5 ∷ []
+  pub mixed : tokens (bytes "mOdEs") ≡ token (# MODES-KW) 5 ∷ []
+  pub before-mark : tokens (bytes "MODES;") ≡ token (# MODES-KW) 5 ∷ token (# SEMICOLON) 1 ∷ []
+  pub before-character : tokens (bytes "modes" ++ (0xC3 ∷ 0xA9 ∷ [])) ≡ token (# MODES-KW) 5 ∷ token (# ERROR) 2 ∷ []
+  pub behind-digit : tokens (bytes "2modes") ≡ token (# INTEGER-LIT) 1 ∷ token (# MODES-KW) 5 ∷ []
+  pub behind-exponent : tokens (bytes "1end") ≡ token (# REAL-LIT) 2 ∷ token (# IDENT) 2 ∷ []
+  pub digit-more : tokens (bytes "modes2") ≡ token (# IDENT) 6 ∷ []
+  pub underscore-more : tokens (bytes "_Modes") ≡ token (# IDENT) 6 ∷ []
+  pub letter-more : tokens (bytes "modess") ≡ token (# IDENT) 6 ∷ []
+  pub letters-fewer : tokens (bytes "mod") ≡ token (# IDENT) 3 ∷ []
+  pub kelvin : tokens (bytes "pac" ++ (0xE2 ∷ 0x84 ∷ 0xAA ∷ bytes "age")) ≡ token (# IDENT) 3 ∷ token (# ERROR) 3 ∷ token (# IDENT) 3 ∷ []
+
+pub words-read : Words-read
+unfolding definitions
+words-read =
+    record {
+      mix = (inr refl, (inl refl, (inl refl, (inl refl, (inl refl, tt)))));
+      no-digit-first = refl;
+      capital = refl;
+      mixed = refl;
+      before-mark = refl;
+      before-character = refl;
+      behind-digit = refl;
+      behind-exponent = refl;
+      digit-more = refl;
+      underscore-more = refl;
+      letter-more = refl;
+      letters-fewer = refl;
+      kelvin = refl;
+    }
 
 -- COLUMNS --------------------------------------------------------------------------------------------------------------
 

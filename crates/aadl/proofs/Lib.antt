@@ -32,6 +32,8 @@ pub mod SameMarks
 pub mod SameTokens
 pub mod Separators
 pub mod LowerCase
+pub mod TokenText
+pub mod WordTokens
 pub mod Boundaries
 pub mod Glued
 pub mod Locality

@@ -7,12 +7,18 @@ use mathlib.Core.Path.{_≡_, ap}
 use mathlib.Core.Bool.{Bool, true, _&&_}
 use mathlib.Core.List.{List, [], _∷_, _++_}
 use lib.ListN.{length, getD, drop, set}
+use Rattle.predictive.proofs.Tests.{and-l, and-r}
 
 module _ {ℓ} {A : Type ℓ} where
   -- mathlib's `all` does not compute outside its module
   abbrev pub every : (A → Bool) → List A → Bool
   every p [] = true
   every p (x ∷ xs) = p x && every p xs
+
+  pub every-at : (p : A → Bool) (xs : List A) (i : ℕ) (d : A) → i < length xs → every p xs ≡ true → p (getD xs i d) ≡ true
+  every-at p [] i d l e = absurd (not-suc-le-zero l)
+  every-at p (x ∷ xs) zero d l e = and-l (p x) (every p xs) e
+  every-at p (x ∷ xs) (suc i) d l e = every-at p xs i d (le-of-suc-le-suc l) (and-r (p x) (every p xs) e)
 
   -- every element has the property
   abbrev pub Each : (A → Type 0) → List A → Type 0

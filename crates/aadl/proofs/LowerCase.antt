@@ -8,14 +8,14 @@ use mathlib.Core.List.{List, [], _∷_, _++_, map}
 use lib.ListN.{length, length-map}
 use lib.Seq.{take-append-seam}
 use lib.Dec.{eqb, leb}
-use borrow.Author.Tests.{leb-true, le-leb, lt-leb, ne-eqb}
-use Rattle.predictive.proofs.Tests.{and-l, and-r, and-both, and-false-r}
+use borrow.Author.Tests.{lt-leb, ne-eqb}
+use Rattle.predictive.proofs.Tests.{and-false-r}
 use Rattle.aadl.specs.declared.Token.{Token}
 use Rattle.aadl.specs.Kinds.{IDENT, #_}
 use Rattle.aadl.specs.Words.{table, lower, kind-of-word}
 use Rattle.aadl.specs.Bytes.{peek, within, run, is-ident-start, is-ident-continue}
 use Rattle.aadl.specs.Tokens.{token, word-of, token-of}
-use Rattle.aadl.proofs.Bools.{cond-has}
+use Rattle.aadl.proofs.Bools.{cond-has, bounds, within-bounds}
 use Rattle.aadl.proofs.ByteClasses.{small-starts, capital-starts, start-word, start-high}
 use Rattle.aadl.proofs.TokenBounds.{token-cases, token-positive, number-kind, mark-kind}
 use Rattle.aadl.proofs.KeywordKinds.{find-lower}
@@ -51,10 +51,10 @@ token-of-word bs e =
 
 small-letter : (b : ℕ) → within 65 90 b ≡ true → within 97 122 (b + 32) ≡ true
 small-letter b e =
-    and-both (leb 97 (b + 32)) (leb (b + 32) 122) (le-leb 97 (b + 32) (omega (arith, leb-true 65 b (and-l (leb 65 b) (leb b 90) e))))
-    (le-leb (b + 32) 122 (omega (arith, leb-true b 90 (and-r (leb 65 b) (leb b 90) e))))
+    let i = bounds 65 90 b e in
+    within-bounds 97 122 (b + 32) (omega (arith, i .0)) (omega (arith, i .1))
 
-lower-starts : (b : ℕ) → is-ident-start b ≡ is-ident-start (lower b)
+pub lower-starts : (b : ℕ) → is-ident-start b ≡ is-ident-start (lower b)
 lower-starts b =
     cond-has (λ (c : ℕ). is-ident-start b ≡ is-ident-start c) (leb 65 b && leb b 90) _ _
     (λ e. capital-starts b e ∙ sym (small-starts (b + 32) (small-letter b e))) (λ e. refl)
@@ -64,12 +64,12 @@ lower-goes-on b =
     cond-has (λ (c : ℕ). is-ident-continue b ≡ is-ident-continue c) (leb 65 b && leb b 90) _ _
     (λ e. start-word b (capital-starts b e) ∙ sym (start-word (b + 32) (small-starts (b + 32) (small-letter b e)))) (λ e. refl)
 
-run-lower : (w s : List ℕ) → run is-ident-continue (w ++ s) ≡ run is-ident-continue (map lower w ++ s)
+pub run-lower : (w s : List ℕ) → run is-ident-continue (w ++ s) ≡ run is-ident-continue (map lower w ++ s)
 unfolding run
 run-lower [] s = refl
 run-lower (b ∷ w) s = rw (lower-goes-on b, run-lower w s) refl
 
-word-whole : (w s : List ℕ) → run is-ident-continue (w ++ s) ≡ length w → word-of (w ++ s) ≡ token (kind-of-word w) (length w)
+pub word-whole : (w s : List ℕ) → run is-ident-continue (w ++ s) ≡ length w → word-of (w ++ s) ≡ token (kind-of-word w) (length w)
 unfolding word-of
 word-whole w s e = rw (e, take-append-seam w s)
 

@@ -8,12 +8,13 @@ use mathlib.Core.Bool.{true, false, _&&_}
 use mathlib.Core.List.{List, [], _∷_, _++_}
 use lib.ListN.{length, drop, replicate}
 use lib.Dec.{leb}
-use borrow.Author.Tests.{eq-eqb, ne-eqb, leb-true}
+use borrow.Author.Tests.{eq-eqb, ne-eqb}
 use Rattle.predictive.proofs.Tests.{and-l, and-r}
 use Rattle.aadl.specs.declared.Answer.{Answer}
 use Rattle.aadl.specs.Limits.{Limits}
 use Rattle.aadl.specs.Tokens.{tokens}
 use Rattle.aadl.specs.Answers.{Check, check, text-checks, answered, refused, checked, tokens-answer, left-by, left-in, token-words}
+use Rattle.aadl.proofs.Bools.{bounds}
 use Rattle.aadl.proofs.Lists.{Each}
 use Rattle.aadl.proofs.Checks.{Fails, numbered}
 
@@ -80,7 +81,7 @@ first-numbered [] n p h f = absurd f
 first-numbered (check k case q ∷ cs) n p h f =
     let b = and-l (leb 1 k && leb k 255) (numbered cs) h in
     ⊎-elim
-    (λ x. (omega (arith, x .1 .0, leb-true 1 k (and-l (leb 1 k) (leb k 255) b)), omega (arith, x .1 .0, leb-true k 255 (and-r (leb 1 k) (leb k 255) b))))
+    (λ x. (omega (arith, x .1 .0, bounds 1 255 k b .0), omega (arith, x .1 .0, bounds 1 255 k b .1)))
     (λ x. first-numbered cs n p (and-r (leb 1 k && leb k 255) (numbered cs) h) (x .1))
     f
 

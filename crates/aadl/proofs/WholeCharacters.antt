@@ -23,11 +23,11 @@ use Rattle.aadl.specs.Utf8.{sequence, is-continuation}
 use Rattle.aadl.specs.Bytes.{peek, within, is-whitespace, is-digit, is-hex-digit, is-ident-start, is-ident-continue, is-exponent, is-sign, is-grouped, is-based, not-lf, run, run-end}
 use Rattle.aadl.specs.Tokens.{quoted, string-of, Number, exponent-end, based, number-of, word-of, marks, longest-mark, mark-of, token-of, tokens, lengths}
 use Rattle.aadl.specs.Symbols.{is-trivia, Placed, placed, start-of}
-use Rattle.aadl.proofs.Bools.{cond-has}
+use Rattle.aadl.proofs.Bools.{cond-has, bounds}
 use Rattle.aadl.proofs.Lists.{every, Each}
 use Rattle.aadl.proofs.TokenBounds.{number-cases, token-cases}
 use Rattle.aadl.proofs.TokensCover.{tokens-step}
-use Rattle.aadl.proofs.Characters.{bounds, Formed, Well-formed, Between, formed, formed-begins, formed-back, between-end, low-passes, between-behind-low, well-formed-front}
+use Rattle.aadl.proofs.Characters.{Formed, Well-formed, Between, formed, formed-begins, formed-back, between-end, low-passes, between-behind-low, well-formed-front}
 
 -- CLASSES OF BYTES BELOW 128 -------------------------------------------------------------------------------------------
 

@@ -4,6 +4,7 @@ pub mod Words
 pub mod Utf8
 pub mod Bytes
 pub mod Tokens
+pub mod WordKinds
 pub mod Symbols
 pub mod Section
 pub mod Encoding

@@ -6,6 +6,7 @@ use Prim.Native.String.{String}
 use Prim.Native.String
 use mathlib.Core.Bool.{Bool, true, false, _&&_, cond}
 use mathlib.Core.List.{List, [], _∷_}
+use lib.ListN.{getD}
 use lib.Dec.{leb, eqb}
 use Rattle.aadl.specs.Kinds.{IDENT, #_}
 
@@ -37,6 +38,13 @@ numbered k (s ∷ ss) = record { word = bytes s; kind = k } ∷ numbered (suc k)
 -- "keywords 34 to 114"
 unfoldable pub table : List Entry
 table = numbered 34 words
+
+-- The rows of the table, from 0 on; past the eighty-one words a row without letters, whose kind is IDENT.
+abbrev pub no-word : Entry
+no-word = record { word = []; kind = # IDENT }
+
+abbrev pub row : ℕ → Entry
+row i = getD table i no-word
 
 -- An ASCII capital as its small letter, any other byte as it is.
 abbrev pub lower : ℕ → ℕ

@@ -8,9 +8,9 @@ use mathlib.Core.Logic.{⊎-elim}
 use mathlib.Core.List.{List, [], _∷_, map}
 use lib.ListN.{length, getD, take, length-append, List·getD-append}
 use lib.Seq.{getD-append-add}
-use Rattle.aadl.specs.Words.{Entry, words, table}
+use Rattle.aadl.specs.Words.{Entry, words, table, no-word, row}
 use Rattle.aadl.specs.Section.{from}
-use Rattle.keywords.specs.Tables.{no-word, row, laid, letters-before, word-letters, word-starts, word-lengths, word-kinds, candidate, word-slots}
+use Rattle.keywords.specs.Tables.{laid, letters-before, word-letters, word-starts, word-lengths, word-kinds, candidate, word-slots}
 
 -- VALUES ---------------------------------------------------------------------------------------------------------------
 

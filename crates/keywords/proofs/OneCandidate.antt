@@ -8,15 +8,13 @@ use mathlib.Core.Bool.{Bool, true, false, true≢false, _&&_, cond}
 use mathlib.Core.List.{List, map}
 use lib.ListN.{length, getD, length-map, List·getD-map}
 use lib.Dec.{leb, ltb, eqb}
-use borrow.Author.Tests.{leb-true, ltb-true, eqb-true}
-use Rattle.predictive.proofs.Tests.{and-l, and-r}
+use borrow.Author.Tests.{ltb-true, eqb-true}
 use Rattle.aadl.specs.Kinds.{#_, IDENT}
-use Rattle.aadl.specs.Words.{words, table, lower, same, find, kind-of-word}
+use Rattle.aadl.specs.Words.{words, table, row, lower, same, kind-of-word}
 use Rattle.aadl.specs.Bytes.{within}
-use Rattle.aadl.proofs.Bools.{below-at}
-use Rattle.aadl.proofs.KeywordKinds.{find-lower, same-is-lower, other-kind}
-use Rattle.keywords.specs.Tables.{row, without-case, hash-of, candidate}
-use Rattle.keywords.proofs.Comparing.{lower-is-same}
+use Rattle.aadl.proofs.Bools.{bounds, below-at}
+use Rattle.aadl.proofs.KeywordKinds.{same-is-lower, lower-is-same, kind-in-row, kind-in-no-row}
+use Rattle.keywords.specs.Tables.{without-case, hash-of, candidate}
 
 -- THE HASH -------------------------------------------------------------------------------------------------------------
 
@@ -39,32 +37,25 @@ hash-lower : (w : List ℕ) → hash-of (map lower w) ≡ hash-of w
 hash-lower w =
     rw (length-map w lower, without-case-lower w 0, without-case-lower w (length w - 1), without-case-lower w (length w / 2)) refl
 
--- one test: no two words have one hash
+-- one test: no two words have one hash, so each is found by its own
 own-candidate : (i : ℕ) → i < 81 → candidate (hash-of (row i .word)) ≡ i
 unfolding words table candidate
 own-candidate i h =
     eqb-true (candidate (hash-of (row i .word))) i (below-at (λ (k : ℕ). eqb (candidate (hash-of (row k .word))) k) 81 refl i h)
 
+-- one test: every slot holds a row
 pub candidate-in : (h : ℕ) → h < 256 → candidate h < 82
 unfolding words table candidate
 candidate-in h l = ltb-true (candidate h) 82 (below-at (λ (k : ℕ). ltb (candidate k) 82) 256 refl h l)
 
 -- THE KIND -------------------------------------------------------------------------------------------------------------
 
--- the word of a row has the row's kind, and no word is no keyword
-row-kind : (i : ℕ) → i < 82 → kind-of-word (row i .word) ≡ row i .kind
-unfolding kind-of-word words table
-row-kind i h =
-    eqb-true (kind-of-word (row i .word)) (row i .kind) (below-at (λ (k : ℕ). eqb (kind-of-word (row k .word)) (row k .kind)) 82 refl i h)
+pub kind-if-same : (w : List ℕ) (i : ℕ) → i < 82 → same (row i .word) w ≡ true → kind-of-word w ≡ row i .kind
+kind-if-same w i h e = kind-in-row i w h (same-is-lower (row i .word) w e)
 
-pub kind-of-row : (w : List ℕ) (i : ℕ) → i < 82 → same (row i .word) w ≡ true → kind-of-word w ≡ row i .kind
-unfolding kind-of-word
-kind-of-row w i h e =
-    find-lower table w ∙ ap (λ (v : List ℕ). find table v) (same-is-lower (row i .word) w e) ∙ row-kind i h
-
-pub kind-of-no-row : (w : List ℕ) → same (row (candidate (hash-of w)) .word) w ≡ false → kind-of-word w ≡ # IDENT
-kind-of-no-row w n =
-    other-kind w
+pub kind-if-not-candidate : (w : List ℕ) → same (row (candidate (hash-of w)) .word) w ≡ false → kind-of-word w ≡ # IDENT
+kind-if-not-candidate w n =
+    kind-in-no-row w
     (λ i h e.
     let own : candidate (hash-of w) ≡ i = ap candidate (sym (hash-lower w) ∙ ap hash-of e) ∙ own-candidate i h in
     let is : same (row i .word) w ≡ true = subst (λ (v : List ℕ). same v w ≡ true) e (lower-is-same w) in
@@ -73,14 +64,11 @@ kind-of-no-row w n =
 -- one test: every word has 1 to 14 letters
 word-length : (i : ℕ) → i < 81 → (1 ≤ length (row i .word)) × (length (row i .word) ≤ 14)
 unfolding words table
-word-length i h =
-    let n = length (row i .word) in
-    let e = below-at (λ (k : ℕ). within 1 14 (length (row k .word))) 81 refl i h in
-    (leb-true 1 n (and-l (leb 1 n) (leb n 14) e), leb-true n 14 (and-r (leb 1 n) (leb n 14) e))
+word-length i h = bounds 1 14 (length (row i .word)) (below-at (λ (k : ℕ). within 1 14 (length (row k .word))) 81 refl i h)
 
-pub kind-of-other-length : (w : List ℕ) → (1 ≤ length w → length w ≤ 14 → ⊥) → kind-of-word w ≡ # IDENT
-kind-of-other-length w n =
-    other-kind w
+pub kind-if-other-length : (w : List ℕ) → (1 ≤ length w → length w ≤ 14 → ⊥) → kind-of-word w ≡ # IDENT
+kind-if-other-length w n =
+    kind-in-no-row w
     (λ i h e.
     let l : length w ≡ length (row i .word) = sym (length-map w lower) ∙ ap length e in
     n (omega (arith, word-length i h)) (omega (arith, word-length i h)))

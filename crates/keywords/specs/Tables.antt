@@ -1,30 +1,23 @@
--- The tables that a word's kind is looked up in, as functions of the table of words. The code's arrays equal these by computation. Assumes nothing.
+-- The tables that a word's kind is looked up in, computed from aadl's table of words; the code's arrays equal these by computation. A column
+-- has 82 rows, from 0 on: the eighty-one words, and last a row without letters, which is no word's. Assumes nothing.
 use Prim.Native.Nat.{ℕ, suc, _+_, _-_, _*_, _/_, _%_}
 use mathlib.Core.Path.{_≡_}
 use mathlib.Core.Bool.{cond}
 use mathlib.Core.List.{List, [], _∷_, _++_, map}
-use lib.ListN.{length, getD, take}
+use lib.ListN.{length, take}
 use lib.Dec.{eqb}
-use Rattle.aadl.specs.Kinds.{#_, IDENT}
-use Rattle.aadl.specs.Words.{Entry, table}
+use Rattle.aadl.specs.Words.{Entry, table, row}
 use Rattle.aadl.specs.Bytes.{peek}
 use Rattle.aadl.specs.Section.{from}
 
 -- COLUMNS --------------------------------------------------------------------------------------------------------------
 
--- After the eighty-one words stands one row more, 81, for no word.
-abbrev pub no-word : Entry
-no-word = record { word = []; kind = # IDENT }
-
-abbrev pub row : ℕ → Entry
-row i = getD table i no-word
-
--- the letters of the words end to end
+-- "their letters, laid end to end in one byte table"
 abbrev pub laid : List Entry → List ℕ
 laid [] = []
 laid (e ∷ es) = e .word ++ laid es
 
--- where the letters of a row's word start
+-- where the letters of a row's word start in it
 abbrev pub letters-before : ℕ → ℕ
 letters-before i = length (laid (take i table))
 
@@ -42,11 +35,11 @@ word-kinds = map (λ (i : ℕ). row i .kind) (from 0 82)
 
 -- ONE CANDIDATE --------------------------------------------------------------------------------------------------------
 
--- The two cases of a letter differ by 32.
+-- the letter at a place, without its case: the two cases differ by 32
 abbrev pub without-case : List ℕ → ℕ → ℕ
 without-case w j = peek w j % 32
 
--- The factors are chosen so that no two words of the table have one hash.
+-- The factors were searched for until no two words of the table had one hash.
 abbrev pub hash-of : List ℕ → ℕ
 hash-of w =
     (length w * 8 + without-case w 0 * 23 + without-case w (length w - 1) * 5 + without-case w (length w / 2) * 25) % 256

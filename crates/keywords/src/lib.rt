@@ -1,4 +1,5 @@
-// Which kind a word has: the table of words by columns, and the one candidate that a word's hash names.
+// Which kind a word has, in any mix of ASCII case. The word is not copied: its letters are compared where they stand, one by one, with those
+// of one word of the table, the only one that it can be by its hash.
 mod tables; // tables.rt: the table of words by columns
 
 use syntax_kind::IDENT;
@@ -12,11 +13,11 @@ use tables::STARTS;
 ghost use Prim.Native.Nat.{_≤_, _<_};
 ghost use mathlib.Core.Path.{_≡_};
 ghost use lib.ListN.{length};
-ghost use Rattle.aadl.specs.Words.{lower, same, kind-of-word};
-ghost use Rattle.keywords.specs.Tables.{row, word-letters, word-starts, word-lengths, hash-of, Lent};
+ghost use Rattle.aadl.specs.Words.{row, lower, same, kind-of-word};
+ghost use Rattle.aadl.specs.WordKinds.{Own-kind};
+ghost use Rattle.keywords.specs.Tables.{word-letters, word-starts, word-lengths, hash-of, Lent};
 
-// The columns of the table of words. Reading a `const` array builds it anew, so who looks up many words has the tables made once and
-// lends them.
+// The tables of tables.rt. Reading a `const` array builds it anew, so who looks up many words has them made once and lends them.
 pub struct WordTables {
     pub letters: [u8; 510],
     pub starts: [u16; 82],
@@ -42,9 +43,10 @@ pub fn word_tables() -> WordTables
     }
 }
 
-// The kind of a word, in any mix of ASCII case: a keyword's, or IDENT.
+// The kind of a word: its own if it is one of the eighty-one, else IDENT.
 pub fn from_keyword(word: &[u8]) -> u32
-    ensures { λ r. ⌜ r ≡ kind-of-word (now (word .entry)) ⌝ }
+    ensures kind { λ r. ⌜ r ≡ kind-of-word (now (word .entry)) ⌝ }
+    ensures own_kind { λ r. ⌜ Own-kind (now (word .entry)) r ⌝ }
 {
     let t = word_tables();
     let letters = t.letters;
@@ -68,7 +70,7 @@ pub fn keyword(
     ensures { λ r. ⌜ r ≡ kind-of-word (now (word .entry)) ⌝ }
 {
     let n = word.len();
-    // every word of the table has 1 to 14 letters
+    // no word of the table has more than 14 letters, and the hash needs one
     if (n < 1) | (14 < n) {
         return IDENT;
     }
@@ -79,8 +81,7 @@ pub fn keyword(
     IDENT
 }
 
-// A number below 256 from a word's length and its first, last and middle letters without their case: no two words of the
-// table have the same, so one comparison decides.
+// The slot of a word: SLOTS in tables.rt says by what rule. The two cases of a letter differ by 32.
 fn hash(word: &[u8]) -> usize
     requires { ⌜ (1 ≤ length (now word)) × (length (now word) ≤ 14) ⌝ }
     ensures { λ r. ⌜ r ≡ hash-of (now (word .entry)) ⌝ }
@@ -90,7 +91,7 @@ fn hash(word: &[u8]) -> usize
         % 256
 }
 
-// Whether a word is that of a row, in any mix of ASCII case.
+// Whether a word is that of a row: as many letters, and each the same without its case.
 fn is_word_in(
     word: &[u8],
     i: usize,
@@ -120,7 +121,7 @@ fn is_word_in(
 fn to_lower(b: u8) -> u8
     ensures { λ r. ⌜ r ≡ lower b ⌝ }
 {
-    if (65 <= b) & (b <= 90) { b + 32 } else { b }
+    if (b'A' <= b) & (b <= b'Z') { b + 32 } else { b }
 }
 
 fn wide16(x: u16) -> usize

@@ -1,8 +1,7 @@
-// The table of words by columns, rows in the order of the kinds: the letters of a word stand in LETTERS from STARTS on, LENGTHS of
-// them, and its kind in KINDS; SLOTS has the one row that a word with a given hash can be in. Equal to the columns of
-// specs/Tables.antt, by the proof of `word_tables`.
+// The table of words by columns, a row for each word in the order of the kinds, and one row more, without letters, that is no word's. Each
+// array is the list that specs/Tables.antt computes from the words of aadl: proofs/word_tables.
 
-// The letters of the eighty-one words end to end.
+// The letters of the eighty-one words, laid end to end.
 pub const LETTERS: [u8; 510] =
     *b"packagepublicprivatewithendnonerenamessystemprocessthreadgroupprocessorvirtualbusmemorydevicesubprogramdata\
     abstractimplementationextendsprototypesfeaturesflowsconnectionsmodespropertiessubcomponentsannexcallsinternal\
@@ -10,7 +9,7 @@ pub const LETTERS: [u8; 510] =
     appliestoinheritdeltaisallbindingclassifierreferencerecordcomputetypesetrangeunitsenumerationlistaadlboolean\
     aadlintegeraadlrealaadlstringpropertytruefalsenotandorrefinedselfinterfacefile";
 
-// Where the letters of each word start. Here and in the next two columns the last row is for no word.
+// Where the letters of each word start.
 pub const STARTS: [u16; 82] = [
     0,
     7,
@@ -184,91 +183,93 @@ pub const LENGTHS: [u8; 82] = [
 
 // The kind of each word.
 pub const KINDS: [u8; 82] = [
-    34,
-    35,
-    36,
-    37,
-    38,
-    39,
-    40,
-    41,
-    42,
-    43,
-    44,
-    45,
-    46,
-    47,
-    48,
-    49,
-    50,
-    51,
-    52,
-    53,
-    54,
-    55,
-    56,
-    57,
-    58,
-    59,
-    60,
-    61,
-    62,
-    63,
-    64,
-    65,
-    66,
-    67,
-    68,
-    69,
-    70,
-    71,
-    72,
-    73,
-    74,
-    75,
-    76,
-    77,
-    78,
-    79,
-    80,
-    81,
-    82,
-    83,
-    84,
-    85,
-    86,
-    87,
-    88,
-    89,
-    90,
-    91,
-    92,
-    93,
-    94,
-    95,
-    96,
-    97,
-    98,
-    99,
-    100,
-    101,
-    102,
-    103,
-    104,
-    105,
-    106,
-    107,
-    108,
-    109,
-    110,
-    111,
-    112,
-    113,
-    114,
-    33,
+    34, // package
+    35, // public
+    36, // private
+    37, // with
+    38, // end
+    39, // none
+    40, // renames
+    41, // system
+    42, // process
+    43, // thread
+    44, // group
+    45, // processor
+    46, // virtual
+    47, // bus
+    48, // memory
+    49, // device
+    50, // subprogram
+    51, // data
+    52, // abstract
+    53, // implementation
+    54, // extends
+    55, // prototypes
+    56, // features
+    57, // flows
+    58, // connections
+    59, // modes
+    60, // properties
+    61, // subcomponents
+    62, // annex
+    63, // calls
+    64, // internal
+    65, // in
+    66, // out
+    67, // port
+    68, // event
+    69, // access
+    70, // provides
+    71, // requires
+    72, // feature
+    73, // parameter
+    74, // inverse
+    75, // of
+    76, // flow
+    77, // source
+    78, // sink
+    79, // path
+    80, // initial
+    81, // mode
+    82, // transition
+    83, // constant
+    84, // applies
+    85, // to
+    86, // inherit
+    87, // delta
+    88, // is
+    89, // all
+    90, // binding
+    91, // classifier
+    92, // reference
+    93, // record
+    94, // compute
+    95, // type
+    96, // set
+    97, // range
+    98, // units
+    99, // enumeration
+    100, // list
+    101, // aadlboolean
+    102, // aadlinteger
+    103, // aadlreal
+    104, // aadlstring
+    105, // property
+    106, // true
+    107, // false
+    108, // not
+    109, // and
+    110, // or
+    111, // refined
+    112, // self
+    113, // interface
+    114, // file
+    33, // no word: IDENT
 ];
 
-// The row of the word that has a hash; 81 where none has it.
+// For each hash (`hash` in lib.rt) the row whose word has it, or 81, the row without letters, where no word has it. A hash is the sum of a
+// word's length and of its first, last and middle letters without their case, each times a factor, modulo 256; the factors were searched
+// for until no two of the eighty-one words had one hash. So a word is the one in its slot or none, and one comparison decides.
 pub const SLOTS: [u8; 256] = [
     81,
     81,

@@ -10,10 +10,10 @@ use lib.Dec.{ltb}
 use borrow.Author.Needs.{needs}
 use borrow.Author.Tests.{ltb-true, ltb-false}
 use Rattle.predictive.proofs.Tests.{or-l, or-r, or-cases}
-use Rattle.aadl.specs.Words.{same}
-use Rattle.keywords.specs.Tables.{row, hash-of, candidate, word-slots}
+use Rattle.aadl.specs.Words.{row, same}
+use Rattle.keywords.specs.Tables.{hash-of, candidate}
 use Rattle.keywords.proofs.Columns.{kind-at, slot-at}
-use Rattle.keywords.proofs.OneCandidate.{hash-in, candidate-in, kind-of-row, kind-of-no-row, kind-of-other-length}
+use Rattle.keywords.proofs.OneCandidate.{hash-in, candidate-in, kind-if-same, kind-if-not-candidate, kind-if-other-length}
 use Rattle.keywords.proofs.keyword.Statement.{statement}
 use Rattle.keywords.proofs.keyword.Tie as tie
 
@@ -22,7 +22,7 @@ returns c =
     let w = c .before .before .args .word .now in
     let n = length w in
     sym
-    (kind-of-other-length w
+    (kind-if-other-length w
     (λ low high.
     ⊎-elim (λ q. omega (arith, ltb-true n 1 q)) (λ q. omega (arith, ltb-true 14 n q))
     (or-cases (ltb n 1) (ltb 14 n) (c .if1 .taken))))
@@ -32,48 +32,43 @@ hash-requires c κs =
     let n = length (c .before .before .args .word .now) in
     (ltb-false n 1 (or-l (ltb n 1) (ltb 14 n) (c .if1 .left)), ltb-false 14 n (or-r (ltb n 1) (ltb 14 n) (c .if1 .left)))
 
--- the row that is read is the candidate
-row-read : {slots : List ℕ} {h i : ℕ} (w : List ℕ) → slots ≡ word-slots → h ≡ hash-of w → i ≡ getD slots h 0 →
-    (i ≡ candidate (hash-of w)) × (i < 82)
-row-read w s h r =
-    let e = r ∙ (λ k. getD (s k) (h k) 0) ∙ slot-at (hash-of w) (hash-in w) in
+-- Where the slot is read: the row in it is the word's only candidate.
+slot-read : (q : tie.After-wide) →
+    let start = q .before .before .before .before .before in
+    (q .wide .result ≡ candidate (hash-of (start .args .word .now))) × (q .wide .result < 82)
+slot-read q =
+    let start = q .before .before .before .before .before in
+    let w = start .args .word .now in
+    let e = q .wide .ensures ∙ (λ k. getD (start .pre .slots-lent k) (q .before .before .hash .ensures k) 0) ∙ slot-at (hash-of w) (hash-in w) in
     (e, omega (arith, e, candidate-in (hash-of w) (hash-in w)))
 
 is-word-in-requires : tie.Need-is-word-in-requires
 is-word-in-requires c κs =
-    let p = c .before .before .before .before .before .pre in
-    let w = c .before .before .before .before .before .args .word .now in (
-      row-read w (p .slots-lent) (c .before .before .hash .ensures) (c .wide .ensures) .1,
-      p .letters-lent,
-      p .starts-lent,
-      p .lengths-lent,
-    )
+    let lent = c .before .before .before .before .before .pre in
+    (slot-read c .1, lent .letters-lent, lent .starts-lent, lent .lengths-lent)
 
 element-copy-out-wide32 : tie.Need-element-copy-out-wide32
-element-copy-out-wide32 c =
-    let p = c .before .before .before .before .before .before .before .pre in
-    let w = c .before .before .before .before .before .before .before .args .word .now in
-    row-read w (p .slots-lent) (c .before .before .before .before .hash .ensures) (c .before .before .wide .ensures) .1
+element-copy-out-wide32 c = slot-read (c .before .before) .1
 
 returns-2 : tie.Need-returns-2
 returns-2 c =
-    let p = c .before .before .before .before .before .before .before .before .before .pre in
-    let w = c .before .before .before .before .before .before .before .before .before .args .word .now in
-    let i = c .before .before .before .before .wide in
-    let r = row-read w (p .slots-lent) (c .before .before .before .before .before .before .hash .ensures) (i .ensures) in
+    let at-is-word-in = c .before .before .before in
+    let at-slot = at-is-word-in .before in
+    let start = at-slot .before .before .before .before .before in
+    let i = at-slot .wide .result in
+    let r = slot-read at-slot in
     c .wide32 .ensures
-    ∙ ap (λ (l : List ℕ). getD l (i .result) 0) (p .kinds-lent)
-    ∙ kind-at (i .result) (r .1)
-    ∙ sym (kind-of-row w (i .result) (r .1) (sym (c .before .before .before .is-word-in .ensures) ∙ c .before .before .if2 .taken))
+    ∙ ap (λ (l : List ℕ). getD l i 0) (start .pre .kinds-lent)
+    ∙ kind-at i (r .1)
+    ∙ sym (kind-if-same (start .args .word .now) i (r .1) (sym (at-is-word-in .is-word-in .ensures) ∙ c .before .before .if2 .taken))
 
 returns-3 : tie.Need-returns-3
 returns-3 c =
-    let p = c .before .before .before .before .before .before .before .pre in
-    let w = c .before .before .before .before .before .before .before .args .word .now in
-    let r = row-read w (p .slots-lent) (c .before .before .before .before .hash .ensures) (c .before .before .wide .ensures) in
+    let at-slot = c .before .before in
+    let w = at-slot .before .before .before .before .before .args .word .now in
     sym
-    (kind-of-no-row w
-    (ap (λ (k : ℕ). same (row k .word) w) (sym (r .0)) ∙ sym (c .before .is-word-in .ensures) ∙ c .if2 .left))
+    (kind-if-not-candidate w
+    (ap (λ (k : ℕ). same (row k .word) w) (sym (slot-read at-slot .0)) ∙ sym (c .before .is-word-in .ensures) ∙ c .if2 .left))
 
 pub keyword-spec : {M : Type 1} → statement M
 keyword-spec =

@@ -1,16 +1,14 @@
 -- `keywords::to_lower` meets its contract: its test is the definition's, and a capital is too small for the sum to wrap.
 -- Assumes nothing.
 use native.Mathlib.Omega.{arith}
-use lib.Dec.{leb}
-use borrow.Author.Tests.{leb-true}
-use Rattle.predictive.proofs.Tests.{and-r}
+use Rattle.aadl.proofs.Bools.{bounds}
 use Rattle.keywords.proofs.to_lower.Statement.{statement}
 use Rattle.keywords.proofs.to_lower.Tie as tie
 
 add-result : tie.Need-add-result
 add-result c =
     let b = c .before .args .b in
-    omega (arith, leb-true b 90 (and-r (leb 65 b) (leb b 90) (c .if1 .taken)))
+    omega (arith, bounds 65 90 b (c .if1 .taken))
 
 returns : tie.Need-returns
 returns c = rw (c .if1 .taken)
