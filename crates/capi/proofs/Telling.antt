@@ -12,7 +12,7 @@ use borrow.Author.Tests.{ltb-true, ltb-false, leb-true, leb-false}
 use Rattle.aadl.specs.declared.Answer.{Answer}
 use Rattle.aadl.specs.declared.TreeAnswer.{TreeAnswer}
 use Rattle.aadl.specs.Tokens.{length-in, total, token-text}
-use Rattle.lexer.proofs.TextLaws.{text-none, text-past, text-at}
+use Rattle.aadl.proofs.TokenText.{text-none, text-past, text-at}
 use Rattle.capi.specs.Numbers.{told, tree-told, text-start, part-told, part-of}
 
 pub five-set : (a : Answer) (old : List ℕ) →

@@ -6,6 +6,7 @@ ghost use mathlib.Core.Path.{_≡_};
 ghost use lib.ListN.{length, set};
 ghost use Rattle.aadl.specs.Limits.{base};
 ghost use Rattle.aadl.specs.Tokens.{token-text};
+ghost use Rattle.aadl.specs.WordKinds.{Words-told};
 ghost use Rattle.aadl.specs.Answers.{tokens-answer, section-answer, token-words, event-words, left-in};
 ghost use Rattle.aadl.specs.Demand.{Read-as-derived};
 ghost use Rattle.aadl.specs.Records.{record-words, tree-answer, Recorded};
@@ -74,6 +75,7 @@ pub extern "C" fn gigboda_property_tree(
 pub extern "C" fn gigboda_tokenize(src: &[u8], tokens: &mut [u32], answer: &mut [usize])
     ensures answered { λ r. ⌜ now (answer .exit) ≡ told (tokens-answer base (now (src .entry)) (length (now (tokens .entry)))) (now (answer .entry)) ⌝ }
     ensures token_words { λ r. ⌜ now (tokens .exit) ≡ left-in (tokens-answer base (now (src .entry)) (length (now (tokens .entry)))) (token-words (now (src .entry))) (now (tokens .entry)) ⌝ }
+    ensures words_told { λ r. ⌜ (tokens-answer base (now (src .entry)) (length (now (tokens .entry))) .number ≡ 0 → Words-told (now (src .entry)) (tokens-answer base (now (src .entry)) (length (now (tokens .entry))) .tokens) (now (tokens .exit))) ⌝ }
 {
     let a = lexer::tokenize(src, tokens);
     tell(answer, a);

@@ -1,4 +1,4 @@
-pub mod TextLaws
+pub mod FirstWords
 pub mod FrontLaws
 pub mod FillLaws
 pub mod SequenceLaws

@@ -18,6 +18,7 @@ ghost use lib.ListN.{length, take, replicate};
 ghost use Rattle.aadl.specs.Limits.{base, Allowed};
 ghost use Rattle.aadl.specs.Utf8.{ill-formed};
 ghost use Rattle.aadl.specs.Tokens.{total, token-text};
+ghost use Rattle.aadl.specs.WordKinds.{Words-told};
 ghost use Rattle.aadl.specs.Answers.{refused, tokens-answer, token-words, left-in};
 ghost use Rattle.lexer.specs.Filling.{write, filled-of};
 
@@ -174,7 +175,9 @@ pub fn refuse(tokens: &mut [u32], number: u32, place: usize) -> Answer
 // The tokens-only call within limits: the tokens of a text into lent words, or one of the refusals 1 to 3 with all words zeroed.
 pub fn tokenize_within(src: &[u8], tokens: &mut [u32], limits: Limits) -> Answer
     requires { ⌜ Allowed limits ⌝ }
-    ensures { λ r. ⌜ (r ≡ tokens-answer limits (now (src .entry)) (length (now (tokens .entry)))) × (now (tokens .exit) ≡ left-in r (token-words (now (src .entry))) (now (tokens .entry))) ⌝ }
+    ensures answered { λ r. ⌜ r ≡ tokens-answer limits (now (src .entry)) (length (now (tokens .entry))) ⌝ }
+    ensures token_words { λ r. ⌜ now (tokens .exit) ≡ left-in r (token-words (now (src .entry))) (now (tokens .entry)) ⌝ }
+    ensures words_told { λ r. ⌜ (r .number ≡ 0 → Words-told (now (src .entry)) (r .tokens) (now (tokens .exit))) ⌝ }
 {
     if limits.bytes < src.len() {
         return refuse(tokens, 1, limits.bytes);
@@ -200,7 +203,9 @@ pub fn tokenize_within(src: &[u8], tokens: &mut [u32], limits: Limits) -> Answer
 
 // The tokens-only call: the tokens of a text into lent words, or one of the refusals 1 to 3 with all words zeroed.
 pub fn tokenize(src: &[u8], tokens: &mut [u32]) -> Answer
-    ensures { λ r. ⌜ (r ≡ tokens-answer base (now (src .entry)) (length (now (tokens .entry)))) × (now (tokens .exit) ≡ left-in r (token-words (now (src .entry))) (now (tokens .entry))) ⌝ }
+    ensures answered { λ r. ⌜ r ≡ tokens-answer base (now (src .entry)) (length (now (tokens .entry))) ⌝ }
+    ensures token_words { λ r. ⌜ now (tokens .exit) ≡ left-in r (token-words (now (src .entry))) (now (tokens .entry)) ⌝ }
+    ensures words_told { λ r. ⌜ (r .number ≡ 0 → Words-told (now (src .entry)) (r .tokens) (now (tokens .exit))) ⌝ }
 {
     tokenize_within(src, tokens, BASE)
 }

@@ -17,6 +17,7 @@ use Rattle.aadl.specs.declared.Limits.{Limits}
 use Rattle.aadl.specs.Limits.{Allowed}
 use Rattle.aadl.specs.Tokens.{tokens, token-word}
 use Rattle.aadl.specs.Symbols.{symbols, kinds}
+use Rattle.aadl.specs.WordKinds.{Words-told}
 use Rattle.aadl.specs.Encoding.{event-word, room, words-for}
 use Rattle.aadl.specs.Reading.{events}
 use Rattle.aadl.specs.Answers.{Check, text-checks, section-checks, all-answered, section-answer, left-in, token-words, event-words}
@@ -24,6 +25,7 @@ use Rattle.aadl.specs.Demand.{answered-events, Clean-answer, solid-words, is-cl
 use Rattle.aadl.proofs.Checks.{fails-by}
 use Rattle.aadl.proofs.Settled.{Lent, lent, five-numbers, Answered-whole, Settled, settled, whole}
 use Rattle.aadl.proofs.AnswerDerived.{answer-derived}
+use Rattle.aadl.proofs.WordTokens.{filled-told}
 use Rattle.section.proofs.CleanLaws.{solid-kinds}
 
 -- What the contract of the section call says of its answer a and the token and event words ts and es, where the words old and last were lent.
@@ -84,6 +86,11 @@ module _ {limits : Limits} {text old last : List ℕ} {a : Answer} {ts es : List
       subst (λ (r : Answer). Read-as-derived text r es) (sym q)
       (subst (λ (l : List ℕ). Read-as-derived text (section-answer limits text (length old) (length last)) l) (sym (c .event-words-left))
       (answer-derived limits text (length old) (length last) last (ap (λ (r : Answer). r .number) (sym q) ∙ z)))
+
+  -- Of the token words: each of the eighty-one words in any mix of ASCII case has its own kind, every other word is IDENT.
+  pub every-word-is-told : Allowed limits → a .number ≡ 0 → Words-told text (a .tokens) ts
+  every-word-is-told h z =
+      filled-told limits text old ts (checks limits text old last) (all-answered limits text) a (lent last (event-words limits text) es ∷ []) h refl refl (whole-answer z)
 
   -- The test of the function `is_clean` is exact: it tells whether the answer is clean as demand 3 has it.
   pub clean-is-told : Allowed limits → a .number ≡ 0 → (is-clean a ts es ≡ true) ↔ Clean-answer text a es

@@ -6,17 +6,15 @@ use mathlib.Core.Path.{_≡_, refl, ap, ap₂, _∙_}
 use mathlib.Core.List.{List, [], _∷_, map}
 use lib.ListN.{length}
 use Rattle.aadl.specs.declared.Token.{Token}
-use Rattle.aadl.specs.Tokens.{kind-in, tokens, lengths, token, token-word, total}
+use Rattle.aadl.specs.Tokens.{tokens, lengths, token, token-word, total}
 use Rattle.aadl.specs.Answers.{token-words}
 use Rattle.aadl.proofs.Lists.{Each}
 use Rattle.aadl.proofs.TokensCover.{tokens-cover-text, kinds-small}
+use Rattle.aadl.proofs.TokenText.{kind-back, length-back}
 use Rattle.parser.specs.Input.{token-in}
 
 word-back : (t : Token) → t .kind < 128 → t .len < 65536 → token-in (token-word t) ≡ t
-word-back t h l =
-    let k : kind-in (token-word t) ≡ t .kind = omega (arith, h, l) in
-    let n : token-word t % 65536 ≡ t .len = omega (arith, h, l) in
-    ap₂ token k n
+word-back t h l = ap₂ token (kind-back t h l) (length-back t h l)
 
 words-back : (ts : List Token) → Each (λ (t : Token). t .kind < 128) ts → lengths ts < 65536 → map token-in (map token-word ts) ≡ ts
 words-back [] h l = refl

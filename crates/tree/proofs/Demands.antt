@@ -13,6 +13,8 @@ use Rattle.predictive.specs.Tree.{spell}
 use Rattle.aadl.specs.declared.Answer.{Answer}
 use Rattle.aadl.specs.declared.TreeAnswer.{TreeAnswer}
 use Rattle.aadl.specs.declared.Limits.{Limits}
+use Rattle.aadl.specs.Limits.{Allowed}
+use Rattle.aadl.specs.WordKinds.{Words-told}
 use Rattle.aadl.specs.Kinds.{#_, PROPERTY-SECTION}
 use Rattle.aadl.specs.Symbols.{symbols, kinds}
 use Rattle.aadl.specs.Reading.{events}
@@ -23,7 +25,7 @@ use Rattle.aadl.proofs.Settled.{five-numbers, Answered-whole, Settled}
 use Rattle.aadl.proofs.AnswerDerived.{Answered, answered-whole, told}
 use Rattle.aadl.proofs.TreeAnswers.{all-checks, six-numbers, tree-buffers, tree-answer-is-settled, tree-answered, tree-read-as-derived, records-told, tree-recorded}
 use Rattle.aadl.proofs.RecordsUpwards.{Upwards, record-at, insides, text-upwards, text-run}
-use Rattle.section.proofs.Demands.{Called, checks, buffers, every-answer-is-settled, counted-tokens, counted-events}
+use Rattle.section.proofs.Demands.{Called, checks, buffers, every-answer-is-settled, counted-tokens, counted-events, every-word-is-told}
 
 -- What the contract of the tree call says of its answer a and the token, event and record words ts, es and rs, where the words old, last
 -- and rows were lent.
@@ -96,6 +98,9 @@ module _ {limits : Limits} {text old last rows : List ℕ} {a : TreeAnswer} {ts 
           token-words-left = c .token-words-left ∙ ap (λ (x : Answer). left-in x (token-words text) old) same;
           event-words-left = c .event-words-left ∙ ap (λ (x : Answer). left-in x (event-words limits text) last) same;
         }
+
+    pub every-tree-word-is-told : Allowed limits → Words-told text (a .answer .tokens) ts
+    every-tree-word-is-told h = every-word-is-told section's h z
 
     all-told : answered-records a rs ≡ text-records limits text
     all-told = records-told limits text (length old) (length last) (length rows) a (c .answer) z rows rs (c .record-words-left)

@@ -1,7 +1,8 @@
 -- The library's call, and its answer told. Assumes nothing.
-use mathlib.Core.Path.{ap, _∙_}
+use mathlib.Core.Path.{_≡_, ap, subst, _∙_}
 use borrow.Author.Needs.{needs}
 use Rattle.aadl.specs.declared.Answer.{Answer}
+use Rattle.aadl.specs.WordKinds.{Words-told}
 use Rattle.aadl.specs.Answers.{left-in, token-words}
 use Rattle.capi.specs.Numbers.{told}
 use Rattle.capi.proofs.gigboda_tokenize.Statement.{statement}
@@ -14,7 +15,10 @@ returns c =
     let x = at-tokenize .before .before .before .before .before .args in
     let e = at-tokenize .tokenize .ensures in (
       at-tell .tell .ensures ∙ ap (λ (a : Answer). told a (x .answer .now)) (e .0),
-      e .1 ∙ ap (λ (a : Answer). left-in a (token-words (x .src .now)) (x .tokens .now)) (e .0),
+      (
+        e .1 .0 ∙ ap (λ (a : Answer). left-in a (token-words (x .src .now)) (x .tokens .now)) (e .0),
+        subst (λ (a : Answer). a .number ≡ 0 → Words-told (x .src .now) (a .tokens) (at-tokenize .tokenize .last .1 .0)) (e .0) (e .1 .1),
+      ),
     )
 
 pub gigboda-tokenize-spec : {M : Type 1} → statement M

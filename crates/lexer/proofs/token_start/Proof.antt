@@ -1,4 +1,4 @@
--- The sum of the lengths of the words before `k`, at most the cap (TextLaws); past the words there is nothing to add. The measure is what
+-- The sum of the lengths of the words before `k`, at most the cap (FirstWords); past the words there is nothing to add. The measure is what
 -- is left of the number. Assumes nothing.
 use Prim.Native.Nat.{ℕ, _≤_, _-_, _+_, min}
 use mathlib.Core.Path.{_≡_, ap, _∙_}
@@ -6,7 +6,7 @@ use native.Mathlib.Omega.{arith}
 use native.Mathlib.Nat.{zero-add}
 use lib.ListN.{take}
 use Rattle.aadl.specs.Tokens.{total}
-use Rattle.lexer.proofs.TextLaws.{from, from-start, from-more, from-end, from-past}
+use Rattle.lexer.proofs.FirstWords.{from, from-start, from-more, from-end, from-past}
 use borrow.Author.Needs.{needs}
 use Rattle.lexer.proofs.token_start.Statement.{statement}
 use Rattle.lexer.proofs.token_start.Tie as tie

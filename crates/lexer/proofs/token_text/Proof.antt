@@ -1,10 +1,10 @@
--- Three cases: no such word, a sum past the text's end, and a part of the text (TextLaws). Assumes nothing.
+-- Three cases: no such word, a sum past the text's end, and a part of the text (aadl's TokenText). Assumes nothing.
 use Prim.Native.Nat.{ℕ, _-_, _%_}
 use mathlib.Core.Path.{_≡_, sym, ap₂, _∙_}
 use native.Mathlib.Omega.{arith}
 use lib.ListN.{drop, take, getD}
 use Rattle.aadl.specs.Tokens.{total}
-use Rattle.lexer.proofs.TextLaws.{text-none, text-past, text-at}
+use Rattle.aadl.proofs.TokenText.{text-none, text-past, text-at}
 use borrow.Author.Needs.{needs}
 use Rattle.lexer.proofs.token_text.Statement.{statement}
 use Rattle.lexer.proofs.token_text.Tie as tie

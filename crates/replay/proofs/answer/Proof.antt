@@ -10,7 +10,7 @@ use Rattle.replay.proofs.answer.Tie as tie
 returns : tie.Need-returns
 returns c =
     let h = c .before .before .tokenize .ensures in
-    rw (c .before .before .before .before .if1 .taken) (h .0, (h .1, refl))
+    rw (c .before .before .before .before .if1 .taken) (h .0, (h .1 .0, refl))
 
 returns-2 : tie.Need-returns-2
 returns-2 c =

@@ -4,7 +4,7 @@ use mathlib.Core.Path.{_≡_, sym, ap, _∙_}
 use native.Mathlib.Omega.{arith}
 use lib.ListN.{take}
 use borrow.Author.Needs.{needs}
-use Rattle.lexer.proofs.TextLaws.{from, from-start, from-more, from-end, from-past}
+use Rattle.lexer.proofs.FirstWords.{from, from-start, from-more, from-end, from-past}
 use Rattle.section.proofs.CleanLaws.{erring-words, error-here, error-later, error-none}
 use Rattle.section.proofs.any_error.Statement.{statement}
 use Rattle.section.proofs.any_error.Tie as tie

@@ -15,14 +15,14 @@ returns c =
     let at-if1 = at-refuse .before .before in
     let at-tokenize = at-if1 .before .before .before .before in
     let at-args = at-tokenize .before .before .before .before .before in
-    let x = called-refused (at-args .args .limits) (at-args .args .src .now) (at-args .args .tokens .now) (at-args .args .events .now) (at-tokenize .tokenize-within .result) _ (at-tokenize .tokenize-within .ensures .0) (at-tokenize .tokenize-within .ensures .1) _ _ (at-if1 .if1 .taken) (at-refuse .refuse .ensures .0) (at-refuse .refuse .ensures .1) in
+    let x = called-refused (at-args .args .limits) (at-args .args .src .now) (at-args .args .tokens .now) (at-args .args .events .now) (at-tokenize .tokenize-within .result) _ (at-tokenize .tokenize-within .ensures .0) (at-tokenize .tokenize-within .ensures .1 .0) _ _ (at-if1 .if1 .taken) (at-refuse .refuse .ensures .0) (at-refuse .refuse .ensures .1) in
     (x .answer, (x .token-words-left, (x .event-words-left, every-reading-is-derived x)))
 
 count-fits : tie.Need-slice-reshare-prefix-read
 count-fits c =
     let at-tokenize = c .before .before .before .before in
     let at-args = at-tokenize .before .before .before .before .before in
-    passed-fits (at-args .args .limits) (at-args .args .src .now) (at-args .args .tokens .now) (at-args .args .events .now) (at-tokenize .tokenize-within .result) _ (at-tokenize .tokenize-within .ensures .0) (at-tokenize .tokenize-within .ensures .1) (c .if1 .left) (at-tokenize .tokenize-within .kept .1 .0)
+    passed-fits (at-args .args .limits) (at-args .args .src .now) (at-args .args .tokens .now) (at-args .args .events .now) (at-tokenize .tokenize-within .result) _ (at-tokenize .tokenize-within .ensures .0) (at-tokenize .tokenize-within .ensures .1 .0) (c .if1 .left) (at-tokenize .tokenize-within .kept .1 .0)
 
 count-is : tie.Need-slice-aggregate-read
 count-is c =
@@ -34,8 +34,8 @@ read-requires c κs =
     let at-if1 = c .before .before in
     let at-tokenize = at-if1 .before .before .before .before in
     let at-args = at-tokenize .before .before .before .before .before in (
-      passed-short (at-args .args .limits) (at-args .args .src .now) (at-args .args .tokens .now) (at-args .args .events .now) (at-tokenize .tokenize-within .result) _ (at-tokenize .tokenize-within .ensures .0) (at-tokenize .tokenize-within .ensures .1) (at-if1 .if1 .left) (at-args .pre),
-      passed-words (at-args .args .limits) (at-args .args .src .now) (at-args .args .tokens .now) (at-args .args .events .now) (at-tokenize .tokenize-within .result) _ (at-tokenize .tokenize-within .ensures .0) (at-tokenize .tokenize-within .ensures .1) (at-if1 .if1 .left),
+      passed-short (at-args .args .limits) (at-args .args .src .now) (at-args .args .tokens .now) (at-args .args .events .now) (at-tokenize .tokenize-within .result) _ (at-tokenize .tokenize-within .ensures .0) (at-tokenize .tokenize-within .ensures .1 .0) (at-if1 .if1 .left) (at-args .pre),
+      passed-words (at-args .args .limits) (at-args .args .src .now) (at-args .args .tokens .now) (at-args .args .events .now) (at-tokenize .tokenize-within .result) _ (at-tokenize .tokenize-within .ensures .0) (at-tokenize .tokenize-within .ensures .1 .0) (at-if1 .if1 .left),
     )
 
 number-fits : tie.Need-cast-refuse
@@ -53,7 +53,7 @@ returns-2 c =
     let at-if1 = at-read .before .before .before in
     let at-tokenize = at-if1 .before .before .before .before in
     let at-args = at-tokenize .before .before .before .before .before in
-    let x = called-stopped (at-args .args .limits) (at-args .args .src .now) (at-args .args .tokens .now) (at-args .args .events .now) (at-tokenize .tokenize-within .result) _ (at-tokenize .tokenize-within .ensures .0) (at-tokenize .tokenize-within .ensures .1) (at-if1 .if1 .left)
+    let x = called-stopped (at-args .args .limits) (at-args .args .src .now) (at-args .args .tokens .now) (at-args .args .events .now) (at-tokenize .tokenize-within .result) _ (at-tokenize .tokenize-within .ensures .0) (at-tokenize .tokenize-within .ensures .1 .0) (at-if1 .if1 .left)
     (at-read .read .ensures) _ _ _ (at-if2 .if2 .taken) (at-refuse .refuse2 .ensures .0) (at-tokenize .tokenize-within .kept .1 .0) (at-refuse .refuse2 .ensures .1) (at-clear .clear .ensures) in
     (x .answer, (x .token-words-left, (x .event-words-left, every-reading-is-derived x)))
 
@@ -63,7 +63,7 @@ returns-3 c =
     let at-if1 = at-read .before .before .before in
     let at-tokenize = at-if1 .before .before .before .before in
     let at-args = at-tokenize .before .before .before .before .before in
-    let x = called-answered (at-args .args .limits) (at-args .args .src .now) (at-args .args .tokens .now) (at-args .args .events .now) (at-tokenize .tokenize-within .result) _ (at-tokenize .tokenize-within .ensures .0) (at-tokenize .tokenize-within .ensures .1) (at-if1 .if1 .left) (at-read .read .ensures) (c .if2 .left) in
+    let x = called-answered (at-args .args .limits) (at-args .args .src .now) (at-args .args .tokens .now) (at-args .args .events .now) (at-tokenize .tokenize-within .result) _ (at-tokenize .tokenize-within .ensures .0) (at-tokenize .tokenize-within .ensures .1 .0) (at-if1 .if1 .left) (at-read .read .ensures) (c .if2 .left) in
     (x .answer, (x .token-words-left, (x .event-words-left, every-reading-is-derived x)))
 
 pub property-section-within-spec : {M : Type 1} → statement M

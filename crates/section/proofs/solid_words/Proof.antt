@@ -9,7 +9,7 @@ use borrow.Author.Tests.{not-true, not-false}
 use borrow.Author.Needs.{needs}
 use Rattle.aadl.specs.Symbols.{is-trivia}
 use Rattle.aadl.specs.Demand.{solid-words}
-use Rattle.lexer.proofs.TextLaws.{from, from-start, from-more, from-end, from-past}
+use Rattle.lexer.proofs.FirstWords.{from, from-start, from-more, from-end, from-past}
 use Rattle.section.proofs.CleanLaws.{solid-here, trivia-here}
 use Rattle.section.proofs.solid_words.Statement.{statement}
 use Rattle.section.proofs.solid_words.Tie as tie

@@ -1,4 +1,4 @@
--- The first words of a buffer, word by word; and what the sum of the lengths in token words says of a token's text. Assumes nothing.
+-- The first words of a buffer, word by word. Assumes nothing.
 use Prim.Native.Nat.{ℕ, suc, _+_, _-_, _≤_, _<_}
 use native.Mathlib.Numerals.{add-one}
 use native.Mathlib.Nat.{sub-zero}
@@ -7,8 +7,6 @@ use mathlib.Core.Path.{_≡_, refl, ap, _∙_}
 use mathlib.Core.List.{List, [], _∷_}
 use lib.ListN.{length, getD, take, drop, drop-of-length-le}
 use lib.Seq.{drop-cons, take-nil}
-use borrow.Author.Tests.{lt-ltb, le-ltb, le-leb, lt-leb}
-use Rattle.aadl.specs.Tokens.{length-in, total, token-text}
 
 -- the words from i on, of the first n
 abbrev pub from : (i n : ℕ) → List ℕ → List ℕ
@@ -29,17 +27,3 @@ from-end i n ws h =
 
 pub from-past : (i n : ℕ) (ws : List ℕ) → length ws ≤ i → from i n ws ≡ []
 from-past i n ws h = ap (take (n - i)) (drop-of-length-le ws h) ∙ take-nil (n - i)
-
-module _ (text ws : List ℕ) (i : ℕ) where
-  pub text-none : length ws ≤ i → token-text text ws i ≡ []
-  unfolding token-text
-  text-none h = rw (le-ltb i (length ws) h) refl
-
-  pub text-past : i < length ws → length text < total (take i ws) + length-in (getD ws i 0) → token-text text ws i ≡ []
-  unfolding token-text
-  text-past h l = rw (lt-ltb i (length ws) h, lt-leb (total (take i ws) + length-in (getD ws i 0)) (length text) l) refl
-
-  pub text-at : i < length ws → total (take i ws) + length-in (getD ws i 0) ≤ length text →
-      token-text text ws i ≡ take (length-in (getD ws i 0)) (drop (total (take i ws)) text)
-  unfolding token-text
-  text-at h l = rw (lt-ltb i (length ws) h, le-leb (total (take i ws) + length-in (getD ws i 0)) (length text) l) refl
