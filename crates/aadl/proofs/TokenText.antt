@@ -10,7 +10,7 @@ use lib.ListN.{length, getD, take, drop, length-drop, length-map, length-append}
 use lib.Seq.{drop-drop}
 use borrow.Author.Tests.{lt-ltb, le-ltb, le-leb, lt-leb}
 use Rattle.aadl.specs.declared.Token.{Token}
-use Rattle.aadl.specs.Tokens.{token-of, tokens, tokens-after, token-word, length-in, kind-in, total, token-text}
+use Rattle.aadl.specs.Tokens.{token-of, tokens, tokens-after, token-word, length-in, kind-in, total, from-token, token-text}
 use Rattle.aadl.specs.Answers.{token-words}
 use Rattle.aadl.proofs.TokenBounds.{token-within, token-kind-small}
 use Rattle.aadl.proofs.TokensCover.{tokens-step}
@@ -27,7 +27,7 @@ module _ (text ws : List ℕ) (i : ℕ) where
   text-past h l = rw (lt-ltb i (length ws) h, lt-leb (total (take i ws) + length-in (getD ws i 0)) (length text) l) refl
 
   pub text-at : i < length ws → total (take i ws) + length-in (getD ws i 0) ≤ length text →
-      token-text text ws i ≡ take (length-in (getD ws i 0)) (drop (total (take i ws)) text)
+      token-text text ws i ≡ take (length-in (getD ws i 0)) (from-token text ws i)
   unfolding token-text
   text-at h l = rw (lt-ltb i (length ws) h, le-leb (total (take i ws) + length-in (getD ws i 0)) (length text) l) refl
 
@@ -45,7 +45,7 @@ module _ (t : Token) (h : t .kind < 128) (l : t .len < 65536) where
 -- The word with number i is that of the token which starts behind the bytes that the words before it count.
 record Stands (text ts : List ℕ) (i : ℕ) : Type 0 where
   inside : total (take i ts) < length text
-  word : getD ts i 0 ≡ token-word (token-of (drop (total (take i ts)) text))
+  word : getD ts i 0 ≡ token-word (token-of (from-token text ts i))
 
 module _ (rest : List ℕ) where
   stands : (i : ℕ) (text : List ℕ) → length text < 65536 → i < length (tokens text) → Stands text (token-words text ++ rest) i
@@ -72,15 +72,15 @@ module _ (rest : List ℕ) where
 
 -- The token with number i, among the token words of a text with any words behind: the bytes from its start on begin with it.
 pub record Token-at (text ts : List ℕ) (i : ℕ) : Type 0 where
-  pub some : 1 ≤ length (drop (total (take i ts)) text)
-  pub kind : kind-in (getD ts i 0) ≡ token-of (drop (total (take i ts)) text) .kind
-  pub text-is : token-text text ts i ≡ take (token-of (drop (total (take i ts)) text) .len) (drop (total (take i ts)) text)
+  pub some : 1 ≤ length (from-token text ts i)
+  pub kind : kind-in (getD ts i 0) ≡ token-of (from-token text ts i) .kind
+  pub text-is : token-text text ts i ≡ take (token-of (from-token text ts i) .len) (from-token text ts i)
 
 pub token-at : (text rest : List ℕ) (i : ℕ) → length text < 65536 → i < length (tokens text) → Token-at text (token-words text ++ rest) i
 token-at text rest i s h =
     let ts = token-words text ++ rest in
     let e = stands rest i text s h in
-    let from = drop (total (take i ts)) text in
+    let from = from-token text ts i in
     let t = token-of from in
     let some : 1 ≤ length from = omega (arith, e .inside, length-drop (total (take i ts)) text) in
     let w = token-within from some in

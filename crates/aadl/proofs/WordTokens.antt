@@ -18,7 +18,7 @@ use Rattle.aadl.specs.Limits.{Limits, Allowed}
 use Rattle.aadl.specs.Kinds.{IDENT, #_}
 use Rattle.aadl.specs.Words.{words, table, row, lower, kind-of-word}
 use Rattle.aadl.specs.Bytes.{peek, run, is-ident-start, is-ident-continue}
-use Rattle.aadl.specs.Tokens.{token, word-of, token-of, tokens, kind-in, total, token-text}
+use Rattle.aadl.specs.Tokens.{token, word-of, token-of, tokens, kind-in, from-token, token-text}
 use Rattle.aadl.specs.WordKinds.{Mixed, Own-kind, is-word, Words-told}
 use Rattle.aadl.specs.Answers.{Check, text-checks, answered, tokens-answer, left-in, token-words}
 use Rattle.aadl.proofs.Bools.{below-at}
@@ -33,6 +33,10 @@ use Rattle.aadl.proofs.Settled.{Lent, lent, five-numbers, Answered-whol
 
 -- THE FIRST TOKEN OF SOME BYTES ----------------------------------------------------------------------------------------
 
+-- before nothing a run is as long as by itself
+run-alone : (w : List ℕ) → run is-ident-continue (w ++ []) ≡ run is-ident-continue w
+run-alone w = ap (run is-ident-continue) (append-nil w)
+
 -- a word with no letter, digit or `_` behind it
 word-token : (w v : List ℕ) → is-word w ≡ true → is-ident-continue (peek v 0) ≡ false → token-of (w ++ v) ≡ token (kind-of-word w) (length w)
 word-token [] v x f = never x
@@ -40,8 +44,7 @@ word-token (a ∷ w) v x f =
     let u = a ∷ w in
     let starts = is-ident-start a in
     let goes-on = eqb (run is-ident-continue u) (length u) in
-    let alone : run is-ident-continue (u ++ []) ≡ length u =
-    ap (run is-ident-continue) (append-nil u) ∙ eqb-true (run is-ident-continue u) (length u) (and-r starts goes-on x) in
+    let alone = run-alone u ∙ eqb-true (run is-ident-continue u) (length u) (and-r starts goes-on x) in
     token-of-word (u ++ v) (and-l starts goes-on x)
     ∙ word-whole u v (run-same is-ident-continue u [] v (omega (arith, alone)) (λ z. run-none is-ident-continue v f) ∙ alone)
 
@@ -91,18 +94,15 @@ words-told text rest s =
       kind = λ i h x.
           let t = at i h in
           subst (Own-kind (token-text text ts i))
-          (ap kind-of-word (t .text-is) ∙ sym (t .kind ∙ word-has-kind (from i) (t .some) (ap is-word (sym (t .text-is)) ∙ x)))
+          (ap kind-of-word (t .text-is) ∙ sym (t .kind ∙ word-has-kind (from-token text ts i) (t .some) (ap is-word (sym (t .text-is)) ∙ x)))
           (own-kind (token-text text ts i));
       other = λ i h x.
           let t = at i h in
-          subst (λ (k : ℕ). k < # IDENT) (sym (t .kind)) (other-before-ident (from i) (t .some) (ap is-word (sym (t .text-is)) ∙ x));
+          subst (λ (k : ℕ). k < # IDENT) (sym (t .kind)) (other-before-ident (from-token text ts i) (t .some) (ap is-word (sym (t .text-is)) ∙ x));
     }
   where
     ts : List ℕ
     ts = token-words text ++ rest
-
-    from : ℕ → List ℕ
-    from i = drop (total (take i ts)) text
 
     at : (i : ℕ) → i < length (tokens text) → Token-at text ts i
     at i h = token-at text rest i s h
@@ -136,8 +136,7 @@ row-is-word i h = below-at (λ (k : ℕ). is-word (row k .word)) 81 refl i h
 lower-is-word : (w : List ℕ) → is-word w ≡ is-word (map lower w)
 lower-is-word [] = refl
 lower-is-word (b ∷ w) =
-    let r : run is-ident-continue (b ∷ w) ≡ run is-ident-continue (map lower (b ∷ w)) =
-    ap (run is-ident-continue) (sym (append-nil (b ∷ w))) ∙ run-lower (b ∷ w) [] ∙ ap (run is-ident-continue) (append-nil (map lower (b ∷ w))) in
+    let r = sym (run-alone (b ∷ w)) ∙ run-lower (b ∷ w) [] ∙ run-alone (map lower (b ∷ w)) in
     ap₂ _&&_ (lower-starts b) (ap₂ eqb r (sym (length-map (b ∷ w) lower)))
 
 keyword-is-word : (i : ℕ) (w : List ℕ) → i < 81 → Mixed (row i .word) w → is-word w ≡ true
@@ -152,7 +151,7 @@ module _ (w v : List ℕ) (f : is-ident-continue (peek v 0) ≡ false) where
   ident-token x n = word-token w v x f ∙ ap (λ (k : ℕ). token k (length w)) (own-kind w .other n)
 
 -- Of an answer's token words: w stands where token j starts, and v follows.
-module _ {text ts : List ℕ} {n : ℕ} (t : Words-told text n ts) (j : ℕ) (h : j < n) (w v : List ℕ) (e : drop (total (take j ts)) text ≡ w ++ v)
+module _ {text ts : List ℕ} {n : ℕ} (t : Words-told text n ts) (j : ℕ) (h : j < n) (w v : List ℕ) (e : from-token text ts j ≡ w ++ v)
     (f : is-ident-continue (peek v 0) ≡ false) where
   stands-kind : is-word w ≡ true → Own-kind w (kind-in (getD ts j 0))
   stands-kind x =

@@ -162,10 +162,14 @@ abbrev pub total : List ℕ → ℕ
 total [] = 0
 total (w ∷ ws) = length-in w + total ws
 
+-- The bytes from the start of the token with number i on.
+abbrev pub from-token : (text words : List ℕ) → (number : ℕ) → List ℕ
+from-token text words i = drop (total (take i words)) text
+
 -- "By token number, the token's text is handed back as a part of the lent text; empty if there is no such word or the lengths up to
 -- it pass the end." The words may be any.
 unfoldable pub token-text : (text words : List ℕ) → (number : ℕ) → List ℕ
 token-text text words i =
     let begin = total (take i words) in
     let len = length-in (getD words i 0) in
-    cond (ltb i (length words) && leb (begin + len) (length text)) (take len (drop begin text)) []
+    cond (ltb i (length words) && leb (begin + len) (length text)) (take len (from-token text words i)) []

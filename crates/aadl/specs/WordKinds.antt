@@ -5,12 +5,12 @@ use mathlib.Core.Path.{_≡_}
 use mathlib.Core.Logic.{_⊎_, _↔_}
 use mathlib.Core.Bool.{Bool, true, false, _&&_}
 use mathlib.Core.List.{List, [], _∷_, _++_}
-use lib.ListN.{length, getD, take, drop}
+use lib.ListN.{length, getD}
 use lib.Dec.{eqb}
 use Rattle.aadl.specs.Kinds.{IDENT, #_}
 use Rattle.aadl.specs.Words.{row}
 use Rattle.aadl.specs.Bytes.{peek, is-ident-start, is-ident-continue, run}
-use Rattle.aadl.specs.Tokens.{kind-in, total, token-text}
+use Rattle.aadl.specs.Tokens.{kind-in, from-token, token-text}
 
 -- "in any mix of ASCII case": each letter of a word as it stands, or its capital. The words' letters are `a` to `z`, whose capitals are 32
 -- less.
@@ -36,7 +36,7 @@ is-word w = is-ident-start (peek w 0) && eqb (run is-ident-continue w) (length w
 pub record Words-told (text : List ℕ) (n : ℕ) (ts : List ℕ) : Type 0 where
   -- where a token starts and a word stands, with no letter, digit or `_` behind it, the token is that word
   pub whole : (i : ℕ) → i < n → (w v : List ℕ) → is-word w ≡ true → is-ident-continue (peek v 0) ≡ false →
-      drop (total (take i ts)) text ≡ w ++ v → token-text text ts i ≡ w
+      from-token text ts i ≡ w ++ v → token-text text ts i ≡ w
   -- a token that is a word has that word's kind
   pub kind : (i : ℕ) → i < n → is-word (token-text text ts i) ≡ true → Own-kind (token-text text ts i) (kind-in (getD ts i 0))
   -- any other token has a kind before IDENT
