@@ -8,8 +8,8 @@ use borrow.Author.Tests.{lt-ltb, le-ltb, eq-eqb, ne-eqb}
 use Rattle.aadl.specs.declared.Answer.{Answer}
 use Rattle.aadl.specs.Limits.{Limits}
 use Rattle.aadl.specs.Utf8.{ill-formed}
-use Rattle.aadl.specs.Tokens.{tokens, lengths}
-use Rattle.aadl.specs.Answers.{Check, text-checks, refused, checked, answered, tokens-answer, left-in}
+use Rattle.aadl.specs.Tokens.{tokens, lengths, unclosed}
+use Rattle.aadl.specs.Answers.{Check, text-checks, refused, checked, answered, all-tokens, tokens-answer, left-in}
 
 -- The checks of both calls, with further ones cs, and the answer a where nothing is refused.
 module _ (limits : Limits) (text : List ℕ) (m : ℕ) (cs : List Check) (a : Answer) where
@@ -25,13 +25,18 @@ module _ (limits : Limits) (text : List ℕ) (m : ℕ) (cs : List Check) (a : An
       no-word-left l =
           rw (le-ltb (limits .bytes) (length text) h, eq-eqb (ill-formed text) (length text) g, lt-ltb m (length (tokens text)) l) refl
 
-      pub text-passes : length (tokens text) ≤ m → checked refused (text-checks limits text m ++ cs) a ≡ checked refused cs a
-      text-passes l =
-          rw (le-ltb (limits .bytes) (length text) h, eq-eqb (ill-formed text) (length text) g, le-ltb m (length (tokens text)) l) refl
+      module _ (l : length (tokens text) ≤ m) where
+        pub not-closed : (unclosed (tokens text) ≡ length text → ⊥) → checked refused (text-checks limits text m ++ cs) a ≡ refused 8 (unclosed (tokens text))
+        not-closed n =
+            rw (le-ltb (limits .bytes) (length text) h, eq-eqb (ill-formed text) (length text) g, le-ltb m (length (tokens text)) l, ne-eqb (unclosed (tokens text)) (length text) n) refl
+
+        pub text-passes : unclosed (tokens text) ≡ length text → checked refused (text-checks limits text m ++ cs) a ≡ checked refused cs a
+        text-passes u =
+            rw (le-ltb (limits .bytes) (length text) h, eq-eqb (ill-formed text) (length text) g, le-ltb m (length (tokens text)) l, eq-eqb (unclosed (tokens text)) (length text) u) refl
 
 -- The tokens-only call has no further checks.
 pub tokens-answer-is : (limits : Limits) (text : List ℕ) (m : ℕ) →
-    tokens-answer limits text m ≡ checked refused (text-checks limits text m ++ []) (answered (length (tokens text)) 0 0)
+    tokens-answer limits text m ≡ checked refused (text-checks limits text m ++ []) (all-tokens text)
 unfolding tokens-answer
 tokens-answer-is limits text m = refl
 

@@ -72,7 +72,7 @@ module _ (x y : List ℕ) (m : Meek x y) (some : 1 ≤ length x) (line : run not
         ends = omega (arith, bound-within p x (n - 1) h);
         white = w;
         comment = λ k. line;
-        string = λ k e. absurd (omega (arith, ap length e));
+        closed = λ e. absurd (omega (arith, ap length e));
         parted = λ l e f. no-dots p x (n - 1) h (omega (arith, token-positive (c ∷ (p ++ x)))) (getD-past-head n c (p ++ x) 0 (token-positive (c ∷ (p ++ x))) ∙ e) f;
       }
 

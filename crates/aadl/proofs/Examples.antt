@@ -9,20 +9,24 @@ use lib.ListN.{getD, replicate}
 use Rattle.predictive.specs.Forest.{Forest, nil, leaf, node, _then_, message}
 use Rattle.predictive.specs.Events.{start, finish, error, erring, any-fault}
 use Rattle.predictive.specs.Tree.{spell}
+use Rattle.aadl.specs.declared.Quoted.{Quoted}
 use Rattle.aadl.specs.Limits.{Limits, base}
-use Rattle.aadl.specs.Kinds.{#_, ERROR, SEMICOLON, DOT-DOT, L-PAREN, R-PAREN, FAT-ARROW, PLUS, MINUS, STAR, INTEGER-LIT, REAL-LIT, STRING-LIT, IDENT, MODES-KW, PROPERTIES-KW, APPLIES-KW, TO-KW, NOT-KW, IN-KW, OUT-KW, EVENT-KW, DATA-KW, PORT-KW, CLASSIFIER-KW}
+use Rattle.aadl.specs.Kinds.{#_, ERROR, WHITESPACE, SEMICOLON, DOT-DOT, L-PAREN, R-PAREN, FAT-ARROW, PLUS, MINUS, STAR, INTEGER-LIT, REAL-LIT, STRING-LIT, IDENT, MODES-KW, PROPERTIES-KW, APPLIES-KW, TO-KW, NOT-KW, IN-KW, OUT-KW, EVENT-KW, DATA-KW, PORT-KW, CLASSIFIER-KW}
 use Rattle.aadl.specs.Kinds.{DIRECTION, PROTOTYPE-BINDING, PROTOTYPE-BINDING-LIST, CLASSIFIER-REF, CLASSIFIER-VALUE, PROPERTY-SECTION, PROPERTY-ASSOCIATION, PROPERTY-REF, PROPERTY-EXPRESSION, BOOLEAN-VALUE, INTEGER-VALUE, RANGE-VALUE, BINARY-EXPR, APPLIES-TO, CONTAINMENT-PATH}
 use Rattle.aadl.specs.Words.{bytes}
-use Rattle.aadl.specs.Tokens.{token, tokens}
+use Rattle.aadl.specs.Tokens.{token, string-of, string-lit, tokens}
 use Rattle.aadl.specs.WordKinds.{Mixed, is-word}
 use Rattle.aadl.specs.Symbols.{symbols}
 use Rattle.aadl.specs.Reading.{events}
-use Rattle.aadl.specs.Answers.{section-answer, answered, refused}
+use Rattle.aadl.specs.Answers.{tokens-answer, section-answer, answered, refused, left-in}
 use Rattle.aadl.specs.Listing.{column, listing}
 use Rattle.aadl.proofs.Computing.{definitions}
 use Rattle.aadl.proofs.Asides.{is-message}
 
 -- THE STARRED TEXTS ----------------------------------------------------------------------------------------------------
+
+abbrev a-string : (len : ℕ) → (closed : Bool) → Quoted
+a-string n c = record { len = n; closed = c }
 
 pub record Starred : Type 0 where
   pub c-style : tokens (bytes "0x1F") ≡ token (# ERROR) 4 ∷ []
@@ -31,7 +35,8 @@ pub record Starred : Type 0 where
   pub dots : tokens (bytes "1..2") ≡ token (# INTEGER-LIT) 1 ∷ token (# DOT-DOT) 2 ∷ token (# INTEGER-LIT) 1 ∷ []
   pub no-fraction : tokens (bytes "1.") ≡ token (# REAL-LIT) 2 ∷ []
   pub exponent : tokens (bytes "10eV") ≡ token (# REAL-LIT) 3 ∷ token (# IDENT) 1 ∷ []
-  pub unclosed : tokens (bytes "\"\"\"") ≡ token (# STRING-LIT) 3 ∷ []
+  -- said of the string reader: a text that holds such a string is refused (`refusals`)
+  pub unclosed : string-of (bytes "\"\"\"") ≡ a-string 3 false
   pub bare : section-answer base (bytes "properties") 100 100 ≡ answered 1 1 3
   pub none : section-answer base (bytes "properties none;") 100 100 ≡ answered 4 3 5
   pub no-value : section-answer base (bytes "properties A => ;") 100 100 ≡ answered 7 4 11
@@ -65,6 +70,25 @@ pub printed-listing :
     ≡ bytes "event,class,kind,last,line,column\n0,S,169,0,1,1\n1,T,60,1,1,1\n2,S,170,0,2,3\n3,S,171,0,2,3\n4,T,33,1,2,3\n5,F,0,0,2,5\n6,T,18,1,2,5\n7,S,183,0,2,8\n8,T,30,1,2,8\n9,T,33,1,2,10\n10,F,0,0,2,12\n11,T,5,1,2,12\n12,F,0,0,3,1\n13,F,0,0,3,1\n"
 unfolding definitions
 printed-listing = refl
+
+-- STRINGS --------------------------------------------------------------------------------------------------------------
+
+-- A quote alone, one forgotten, one doubled at the end, an odd and an even number of quotes, a doubled quote within, and what stands behind
+-- a string that is closed.
+pub record Strings-read : Type 0 where
+  pub quote : string-of (bytes "\"") ≡ a-string 1 false
+  pub empty : string-of (bytes "\"\"") ≡ a-string 2 true
+  pub forgotten : string-of (bytes "\"a;") ≡ a-string 3 false
+  pub closed : string-of (bytes "\"a\";") ≡ a-string 3 true
+  pub doubled-at-end : string-of (bytes "\"a\"\"") ≡ a-string 4 false
+  pub four : string-of (bytes "\"\"\"\"") ≡ a-string 4 true
+  pub doubled : string-of (bytes "\"a\"\"b\"c\"") ≡ a-string 6 true
+  pub handed-up : tokens (bytes "\"\" \"a") ≡ token (# STRING-LIT) 2 ∷ token (# WHITESPACE) 1 ∷ string-lit (a-string 2 false) ∷ []
+
+pub strings-read : Strings-read
+unfolding definitions
+strings-read =
+    record { quote = refl; empty = refl; forgotten = refl; closed = refl; doubled-at-end = refl; four = refl; doubled = refl; handed-up = refl }
 
 -- WORDS ----------------------------------------------------------------------------------------------------------------
 
@@ -132,11 +156,16 @@ small = record { bytes = 20; openers = 1 }
 abbrev signs : ℕ → List ℕ
 signs n = bytes "properties A => " ++ (replicate n 43 ++ bytes "1;")
 
--- Each refusal in its case, with its place; 5 and 6 by reading order, and the last opener that is read.
+-- Each refusal in its case, with its place; 8 behind 2 and 3 and before 4; 5 and 6 by reading order, and the last opener that is read.
 pub record Refused : Type 0 where
   pub too-long : section-answer small (bytes "properties A => 1234;") 100 100 ≡ refused 1 20
   pub not-utf8 : section-answer small (bytes "properties " ++ (194 ∷ 10 ∷ [])) 100 100 ≡ refused 2 11
   pub no-token-word : section-answer small (bytes "properties none;") 2 100 ≡ refused 3 11
+  pub never-closed : section-answer small (bytes "properties A => \"a;") 100 100 ≡ refused 8 16
+  pub never-closed-tokens : tokens-answer small (bytes " \"a\"\"") 100 ≡ refused 8 1
+  pub not-utf8-first : section-answer small (bytes "\"" ++ (194 ∷ [])) 100 100 ≡ refused 2 1
+  pub no-token-word-first : section-answer small (bytes "properties \"") 2 100 ≡ refused 3 11
+  pub never-closed-first : section-answer small (bytes " -- x\n \"a") 100 100 ≡ refused 8 7
   pub no-properties : section-answer small (bytes " -- x\n none") 100 100 ≡ refused 4 7
   pub no-event-word : section-answer small (bytes "properties none ;") 100 4 ≡ refused 5 17
   pub no-event-at-all : section-answer small (bytes " properties") 100 0 ≡ refused 5 1
@@ -145,6 +174,7 @@ pub record Refused : Type 0 where
   pub two-openers-late : section-answer small (bytes "properties A => ++1;") 100 8 ≡ refused 5 16
   pub sixty-four : section-answer base (signs 64) 100 1000 ≡ answered 72 69 205
   pub sixty-five : section-answer base (signs 65) 100 1000 ≡ refused 6 80
+  pub words-zeroed : left-in (refused 8 16) (1 ∷ 2 ∷ []) (7 ∷ 7 ∷ 7 ∷ []) ≡ 0 ∷ 0 ∷ 0 ∷ []
 
 pub refusals : Refused
 unfolding definitions
@@ -153,6 +183,11 @@ refusals =
       too-long = refl;
       not-utf8 = refl;
       no-token-word = refl;
+      never-closed = refl;
+      never-closed-tokens = refl;
+      not-utf8-first = refl;
+      no-token-word-first = refl;
+      never-closed-first = refl;
       no-properties = refl;
       no-event-word = refl;
       no-event-at-all = refl;
@@ -161,6 +196,7 @@ refusals =
       two-openers-late = refl;
       sixty-four = refl;
       sixty-five = refl;
+      words-zeroed = refl;
     }
 
 -- MISTAKES THE CONTRACTS SHUT OUT --------------------------------------------------------------------------------------

@@ -42,7 +42,7 @@ stand-first c (b ∷ bs) e = eqb-true b c (and-l (eqb b c) true e)
 pub semicolon-alone : (bs : List ℕ) → token-of bs .kind ≡ # SEMICOLON → (peek bs 0 ≡ 59) × (token-of bs .len ≡ 1)
 unfolding word-of mark-of marks
 semicolon-alone bs =
-    token-cases P bs (λ e h. absurd (omega arith)) (λ e h. absurd (omega arith)) (λ h. absurd (omega arith))
+    token-cases P bs (λ e h. absurd (omega arith)) (λ e h. absurd (omega arith)) (λ e h. absurd (omega arith))
     (λ e h. absurd (number-kind (λ (k : ℕ). k ≡ # SEMICOLON → ⊥) (λ l. omega arith) (λ l. omega arith) (λ l. omega arith) bs h))
     (λ e h. absurd (omega (arith, word-kind (take (run is-ident-continue bs) bs) .0)))
     (cond-has P (eqb (longest-mark 5 marks bs .len) 0) _ _ (λ e h. absurd (omega arith))

@@ -6,6 +6,7 @@ pub mod Utf8Laws
 pub mod Characters
 pub mod TokenBounds
 pub mod TokensCover
+pub mod Unclosed
 pub mod WholeCharacters
 pub mod KeywordKinds
 pub mod SectionTest
@@ -17,6 +18,7 @@ pub mod Checks
 pub mod Settled
 pub mod AnswerLaws
 pub mod Refusals
+pub mod NeverClean
 pub mod Asides
 pub mod EventWords
 pub mod AnswerDerived
@@ -37,3 +39,4 @@ pub mod WordTokens
 pub mod Boundaries
 pub mod Glued
 pub mod Locality
+pub mod StringTokens

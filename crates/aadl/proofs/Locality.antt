@@ -13,13 +13,14 @@ use lib.Dec.{eqb, ltb}
 use borrow.Author.Tests.{ne-eqb}
 use Rattle.predictive.proofs.Tests.{never, or-neither}
 use Rattle.aadl.specs.declared.Token.{Token}
-use Rattle.aadl.specs.Kinds.{WHITESPACE, COMMENT, SEMICOLON, DOT, DOT-DOT, INTEGER-LIT, REAL-LIT, STRING-LIT, IDENT, #_}
+use Rattle.aadl.specs.Kinds.{WHITESPACE, COMMENT, SEMICOLON, DOT, DOT-DOT, INTEGER-LIT, REAL-LIT, IDENT, #_}
 use Rattle.aadl.specs.Words.{bytes, lower}
 use Rattle.aadl.specs.Bytes.{peek, is-digit}
-use Rattle.aadl.specs.Tokens.{token, string-of, number-of, token-of, tokens-after, tokens}
+use Rattle.aadl.specs.Tokens.{token, number-of, token-of, tokens-after, tokens}
 use Rattle.aadl.specs.Symbols.{is-trivia}
 use Rattle.aadl.proofs.Lists.{every, Each}
 use Rattle.aadl.proofs.TokenBounds.{token-positive}
+use Rattle.aadl.proofs.Unclosed.{closed-unless-string}
 use Rattle.aadl.proofs.SameNumbers.{number-same}
 use Rattle.aadl.proofs.SameTokens.{token-of-same}
 use Rattle.aadl.proofs.Separators.{Separates, separates-meek}
@@ -29,15 +30,15 @@ use Rattle.aadl.proofs.Computing.{definitions}
 
 -- (a) A TOKEN BEFORE A SEPARATOR ---------------------------------------------------------------------------------------
 
--- w is the first token of w ++ r. It is no trivia; if it is a string, it is closed, which is asked only where nothing follows it, since
--- any other is. s separates: it is empty or begins with a space, an LF or `;` (`nothing-separates`, `space-separates`, `line-separates`,
+-- w is the first token of w ++ r. It is no trivia; it is closed, which is asked only where nothing follows it, since any other is.
+-- s separates: it is empty or begins with a space, an LF or `;` (`nothing-separates`, `space-separates`, `line-separates`,
 -- `semicolon-separates`), or with any other byte that goes on with no token.
 pub token-again : (w r s : List ℕ) → token-of (w ++ r) .len ≡ length w → is-trivia (token-of (w ++ r) .kind) ≡ false →
-    (token-of (w ++ r) .kind ≡ # STRING-LIT → r ≡ [] → string-of (w ++ r) .closed ≡ true) → Separates s → token-of (w ++ s) ≡ token-of (w ++ r)
+    (r ≡ [] → token-of (w ++ r) .closed ≡ true) → Separates s → token-of (w ++ s) ≡ token-of (w ++ r)
 token-again [] r s whole solid closed e = absurd (omega (arith, token-positive r))
 token-again (a ∷ w) r s whole solid closed e =
     token-of-same a w r s (separates-meek r s e)
-    record { ends = omega arith; white = λ f. never (sym solid ∙ ap is-trivia f); comment = λ f. never (sym solid ∙ ap is-trivia f); string = closed; parted = λ l. omega arith }
+    record { ends = omega arith; white = λ f. never (sym solid ∙ ap is-trivia f); comment = λ f. never (sym solid ∙ ap is-trivia f); closed = closed; parted = λ l. omega arith }
 
 -- The same of a number: its kind and length, its base, its inner digits, the closing `#` and the exponent.
 pub number-again : (w r s : List ℕ) → is-digit (peek w 0) ≡ true → number-of (w ++ r) .len ≡ length w → Separates s →
@@ -53,7 +54,7 @@ pub word-again : (w r s : List ℕ) → token-of (w ++ r) .len ≡ length w → 
 word-again w r s whole word e =
     let k = token-of (w ++ r) .kind in
     let solid = or-neither (eqb k (# WHITESPACE)) (eqb k (# COMMENT)) (ne-eqb k (# WHITESPACE) (λ q. omega arith)) (ne-eqb k (# COMMENT) (λ q. omega arith)) in
-    let again = token-again w r s whole solid (λ q. absurd (omega arith)) e in
+    let again = token-again w r s whole solid (λ q. closed-unless-string (w ++ r) (λ k. omega (arith, k, word))) e in
     lower-case-same w s (ap (λ (t : Token). t .len) again ∙ whole) (subst (λ (t : Token). # IDENT ≤ t .kind) (sym again) word) ∙ again
 
 -- (c) TEXTS ONE AFTER ANOTHER ------------------------------------------------------------------------------------------

@@ -26,7 +26,7 @@ use Rattle.aadl.proofs.KeywordKinds.{find-lower}
 pub word-starts : (bs : List ℕ) → # IDENT ≤ token-of bs .kind → is-ident-start (peek bs 0) ≡ true
 word-starts bs =
     token-cases (λ (t : Token). # IDENT ≤ t .kind → is-ident-start (peek bs 0) ≡ true) bs (λ e h. absurd (omega arith)) (λ e h. absurd (omega arith))
-    (λ h. absurd (omega arith))
+    (λ e h. absurd (omega arith))
     (λ e h. absurd (number-kind (λ (k : ℕ). # IDENT ≤ k → ⊥) (λ l. omega arith) (λ l. omega arith) (λ l. omega arith) bs h))
     (λ e h. e) (λ h. absurd (omega (arith, mark-kind bs)))
 

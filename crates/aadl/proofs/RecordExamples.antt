@@ -47,7 +47,8 @@ pub texts : Texts
 unfolding definitions records-from records text-records leaves
 texts = record { bare = refl; range = refl; leaning = refl; empty-path = refl; empty-at-end = refl; no-value = refl }
 
--- Four words are a record's; one record too few is refused after all else, at the token of the first node without one.
+-- Four words are a record's; one record too few is refused after all else, at the token of the first node without one. A string that is not
+-- closed is refused before the section is looked at.
 pub record Answers : Type 0 where
   pub bare : tree-answer base (bytes "properties") 1 3 4 ≡ with-records (answered 1 1 3) 1
   pub no-words : tree-answer base (bytes " properties") 2 3 3 ≡ tree-refused 7 1
@@ -55,7 +56,8 @@ pub record Answers : Type 0 where
   pub enough : tree-answer base (bytes "properties A => 1 .. 2;") 12 19 24 ≡ with-records (answered 12 7 19) 6
   pub at-end : tree-answer base (bytes "properties A => 1 applies to") 100 100 23 ≡ tree-refused 7 28
   pub events-first : tree-answer base (bytes "properties A => 1 .. 2;") 12 18 0 ≡ tree-refused 5 23
+  pub never-closed : tree-answer base (bytes "properties A => \"1") 7 0 0 ≡ tree-refused 8 16
 
 pub answers : Answers
 unfolding definitions records-from records text-records leaves tree-answer
-answers = record { bare = refl; no-words = refl; one-short = refl; enough = refl; at-end = refl; events-first = refl }
+answers = record { bare = refl; no-words = refl; one-short = refl; enough = refl; at-end = refl; events-first = refl; never-closed = refl }

@@ -14,10 +14,11 @@ use borrow.Author.Tests.{eqb-true}
 use Rattle.predictive.proofs.Tests.{never, and-l, and-r, and-false-r}
 use Rattle.aadl.specs.declared.Token.{Token}
 use Rattle.aadl.specs.declared.Quoted.{Quoted}
-use Rattle.aadl.specs.Kinds.{WHITESPACE, COMMENT, STRING-LIT, #_}
+use Rattle.aadl.specs.Kinds.{WHITESPACE, COMMENT, #_}
 use Rattle.aadl.specs.Bytes.{peek, run, is-whitespace, is-digit, is-ident-start, is-ident-continue, not-lf}
-use Rattle.aadl.specs.Tokens.{token, more-quoted, quoted, string-of, Number, word-of, token-of}
+use Rattle.aadl.specs.Tokens.{token, more-quoted, quoted, string-of, string-lit, Number, word-of, token-of}
 use Rattle.aadl.proofs.Bools.{cond-has, false-unless, cond-first, cond-same}
+use Rattle.aadl.proofs.TokenBounds.{quoted-whole}
 use Rattle.aadl.proofs.SameRuns.{Meek, meek-none, run-same}
 use Rattle.aadl.proofs.SameNumbers.{Parted, number-same}
 use Rattle.aadl.proofs.SameMarks.{mark-same}
@@ -48,11 +49,11 @@ quoted-same q (b ∷ u) x y h e k =
 
 -- a string that ends before the text does is closed
 pub quoted-closed : (q : Bool) (bs : List ℕ) → quoted q bs .len < length bs → quoted q bs .closed ≡ true
-unfolding quoted
-quoted-closed q [] = λ h. absurd (not-suc-le-zero h)
-quoted-closed q (b ∷ bs) =
-    cond-has (λ (s : Quoted). s .len < suc (length bs) → s .closed ≡ true) (q && not (eqb b 34)) _ _
-    (λ f h. refl) (λ f h. quoted-closed (not q && eqb b 34) bs (le-of-suc-le-suc h))
+quoted-closed q bs h = go (quoted q bs .closed) refl
+  where
+    go : (c : Bool) → quoted q bs .closed ≡ c → quoted q bs .closed ≡ true
+    go true e = e
+    go false e = absurd (omega (arith, h, quoted-whole q bs e))
 
 pub string-same : (a : ℕ) (u x y : List ℕ) → string-of (a ∷ (u ++ x)) .len ≤ suc (length u) → (x ≡ [] → string-of (a ∷ (u ++ x)) .closed ≡ true) →
     eqb (peek y 0) 34 ≡ false → string-of (a ∷ (u ++ y)) ≡ string-of (a ∷ (u ++ x))
@@ -89,12 +90,12 @@ dashes-same a (b ∷ u) x y m h = refl
 -- TOKENS ---------------------------------------------------------------------------------------------------------------
 
 -- What a token t of u ++ x, where y takes x's place, must be besides: it ends within u; a run of trivia does not go on in y if it ended
--- before x; a string is closed, which is to be asked only if x is empty; and it is not followed by one dot before x and one in x.
+-- before x; it is closed, which is to be asked only if x is empty; and it is not followed by one dot before x and one in x.
 pub record Kept (u x y : List ℕ) (t : Token) : Type 0 where
   pub ends : t .len ≤ length u
   pub white : t .kind ≡ # WHITESPACE → run is-whitespace x ≡ 0 → run is-whitespace y ≡ 0
   pub comment : t .kind ≡ # COMMENT → run not-lf x ≡ 0 → run not-lf y ≡ 0
-  pub string : t .kind ≡ # STRING-LIT → x ≡ [] → string-of (u ++ x) .closed ≡ true
+  pub closed : x ≡ [] → t .closed ≡ true
   pub parted : Parted u x (t .len)
 
 pub token-of-same : (a : ℕ) (u x y : List ℕ) → Meek x y → Kept (a ∷ u) x y (token-of (a ∷ (u ++ x))) → token-of (a ∷ (u ++ y)) ≡ token-of (a ∷ (u ++ x))
@@ -105,7 +106,7 @@ token-of-same a u x y m q =
     (λ e k. cond-same Q (dashes x) (dashes y) (dashes-same a u x y m (λ t. cond-first Q (dashes x) _ _ k t .ends)) _ _ _ _
     (λ f l. ap (token (# COMMENT)) (run-same not-lf (a ∷ u) x y (l .ends) (l .comment refl)))
     (λ f l. cond-same Q (eqb a 34) (eqb a 34) refl _ _ _ _
-    (λ g n. ap (λ (s : Quoted). token (# STRING-LIT) (s .len)) (string-same a u x y (n .ends) (n .string refl) (meek-none m 34 refl)))
+    (λ g n. ap string-lit (string-same a u x y (n .ends) (n .closed) (meek-none m 34 refl)))
     (λ g n. cond-same Q (is-digit a) (is-digit a) refl _ _ _ _
     (λ r o. ap (λ (s : Number). token (s .kind) (s .len)) (number-same a u x y m (o .ends) (o .parted)))
     (λ r o. cond-same Q (is-ident-start a) (is-ident-start a) refl _ _ _ _

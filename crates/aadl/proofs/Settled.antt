@@ -12,8 +12,7 @@ use borrow.Author.Tests.{eq-eqb, ne-eqb}
 use Rattle.predictive.proofs.Tests.{and-l, and-r}
 use Rattle.aadl.specs.declared.Answer.{Answer}
 use Rattle.aadl.specs.Limits.{Limits}
-use Rattle.aadl.specs.Tokens.{tokens}
-use Rattle.aadl.specs.Answers.{Check, check, text-checks, answered, refused, checked, tokens-answer, left-by, left-in, token-words}
+use Rattle.aadl.specs.Answers.{Check, check, text-checks, refused, checked, all-tokens, tokens-answer, left-by, left-in, token-words}
 use Rattle.aadl.proofs.Bools.{bounds}
 use Rattle.aadl.proofs.Lists.{Each}
 use Rattle.aadl.proofs.Checks.{Fails, numbered}
@@ -135,10 +134,15 @@ module _ (form : Form) (cs : List Check) (fine : numbered cs ≡ true) (a answer
       (λ y. omega (arith, ap (form .number) (y .no-counts), form .shown (y .number) (y .place), first-numbered cs (y .number) (y .place) fine (y .first) .1))
       (settled [] tt)
 
--- Every answer of the tokens-only call, to which the words old were lent and which left the words ts, is settled.
-pub tokens-answer-is-settled : (limits : Limits) (text old ts : List ℕ) (a : Answer) → a ≡ tokens-answer limits text (length old) →
-    ts ≡ left-in a (token-words text) old →
-    Settled five-numbers (text-checks limits text (length old)) (answered (length (tokens text)) 0 0) a (lent old (token-words text) ts ∷ [])
-unfolding tokens-answer left-in
-tokens-answer-is-settled limits text old ts a e w =
-    settled five-numbers (text-checks limits text (length old)) refl (answered (length (tokens text)) 0 0) a e refl (lent old (token-words text) ts ∷ []) (w, tt)
+-- Every answer of the tokens-only call, to which the words old were lent and which left the words ts, is settled; and whole where it refuses
+-- nothing.
+module _ (limits : Limits) (text old ts : List ℕ) (a : Answer) (e : a ≡ tokens-answer limits text (length old)) (w : ts ≡ left-in a (token-words text) old) where
+  pub tokens-answer-is-settled : Settled five-numbers (text-checks limits text (length old)) (all-tokens text) a (lent old (token-words text) ts ∷ [])
+  unfolding tokens-answer left-in
+  tokens-answer-is-settled =
+      settled five-numbers (text-checks limits text (length old)) refl (all-tokens text) a e refl (lent old (token-words text) ts ∷ []) (w, tt)
+
+  pub tokens-answer-is-whole : a .number ≡ 0 → Answered-whole five-numbers (text-checks limits text (length old)) (all-tokens text) a (lent old (token-words text) ts ∷ [])
+  unfolding tokens-answer left-in
+  tokens-answer-is-whole =
+      whole five-numbers (text-checks limits text (length old)) refl (all-tokens text) a e refl (lent old (token-words text) ts ∷ []) (w, tt)

@@ -19,7 +19,7 @@ use Rattle.aadl.specs.Words.{bytes, words, table, numbered, find, same, 
 use Rattle.aadl.specs.Bytes.{peek, run, run-end}
 use Rattle.aadl.specs.Bytes.{is-whitespace, is-digit, is-ident-start, is-ident-continue, is-exponent, is-sign, is-grouped, is-based, not-lf}
 use Rattle.aadl.specs.Tokens.{quoted, string-of, Number, number, exponent-end, radix-digit, is-c-style, based, real, number-from, number-of}
-use Rattle.aadl.specs.Tokens.{token, word-of, marks, longest-mark, mark-of, token-of}
+use Rattle.aadl.specs.Tokens.{token, string-lit, word-of, marks, longest-mark, mark-of, token-of}
 use Rattle.predictive.proofs.Tests.{never, and-l, and-r}
 use Rattle.aadl.proofs.Bools.{cond-has}
 use Rattle.aadl.proofs.ByteClasses.{start-word, radix-word}
@@ -147,6 +147,14 @@ quoted-within q (b ∷ bs) =
     cond-has (λ (s : Quoted). s .len ≤ suc (length bs)) (q && not (eqb b 34)) _ _
     (λ e. zero-le) (λ e. suc-le-suc (quoted-within (not q && eqb b 34) bs))
 
+-- an unclosed string takes all bytes
+pub quoted-whole : (q : Bool) (bs : List ℕ) → quoted q bs .closed ≡ false → quoted q bs .len ≡ length bs
+unfolding quoted
+quoted-whole q [] = λ e. refl
+quoted-whole q (b ∷ bs) =
+    cond-has (λ (s : Quoted). s .closed ≡ false → s .len ≡ suc (length bs)) (q && not (eqb b 34)) _ _
+    (λ f e. never (sym e)) (λ f e. ap suc (quoted-whole (not q && eqb b 34) bs e))
+
 pub string-upto : (bs : List ℕ) → 1 ≤ length bs → Upto bs 1 (string-of bs .len)
 unfolding string-of
 string-upto bs h = upto (omega arith) (omega (arith, quoted-within false (drop 1 bs), length-drop 1 bs))
@@ -178,14 +186,14 @@ mark-upto bs h =
 -- What holds in each case, where its own test passes, holds of a token.
 pub token-cases : (P : Token → Type 0) (bs : List ℕ) →
     (is-whitespace (peek bs 0) ≡ true → P (token (# WHITESPACE) (run is-whitespace bs))) →
-    ((eqb (peek bs 0) 45 && eqb (peek bs 1) 45) ≡ true → P (token (# COMMENT) (run not-lf bs))) → P (token (# STRING-LIT) (string-of bs .len)) →
+    ((eqb (peek bs 0) 45 && eqb (peek bs 1) 45) ≡ true → P (token (# COMMENT) (run not-lf bs))) → (eqb (peek bs 0) 34 ≡ true → P (string-lit (string-of bs))) →
     (is-digit (peek bs 0) ≡ true → P (token (number-of bs .kind) (number-of bs .len))) → (is-ident-start (peek bs 0) ≡ true → P (word-of bs)) →
     P (mark-of bs) → P (token-of bs)
 unfolding token-of
 token-cases P bs w c s n i m =
     cond-has P (is-whitespace (peek bs 0)) _ _ w
     (λ e. cond-has P (eqb (peek bs 0) 45 && eqb (peek bs 1) 45) _ _ c
-    (λ f. cond-has P (eqb (peek bs 0) 34) _ _ (λ g. s)
+    (λ f. cond-has P (eqb (peek bs 0) 34) _ _ s
     (λ g. cond-has P (is-digit (peek bs 0)) _ _ n (λ k. cond-has P (is-ident-start (peek bs 0)) _ _ i (λ l. m)))))
 
 pub token-within : (bs : List ℕ) → 1 ≤ length bs → (1 ≤ token-of bs .len) × (token-of bs .len ≤ length bs)
@@ -193,7 +201,7 @@ unfolding word-of
 token-within bs h =
     let u = token-cases (λ (t : Token). Upto bs 1 (t .len)) bs (run-upto is-whitespace bs h)
     (λ f. run-upto not-lf bs h (ap not-lf (eqb-true (peek bs 0) 45 (and-l (eqb (peek bs 0) 45) (eqb (peek bs 1) 45) f))))
-    (string-upto bs h) (number-upto bs) (λ m. run-upto is-ident-continue bs h (start-word (peek bs 0) m)) (mark-upto bs h) in
+    (λ q. string-upto bs h) (number-upto bs) (λ m. run-upto is-ident-continue bs h (start-word (peek bs 0) m)) (mark-upto bs h) in
     (u .from, omega (arith, u .to))
 
 pub token-positive : (bs : List ℕ) → 1 ≤ token-of bs .len
@@ -226,11 +234,11 @@ longest-mark-between k (m ∷ ms) bs =
     (stand (bytes m) bs && ltb (longest-mark (suc k) ms bs .len) (length (bytes m))) _ _
     (λ e. (λ h. omega arith, omega arith)) (λ e. (λ h. omega (arith, r .0 h), omega (arith, r .1)))
 
-pub mark-kind : (bs : List ℕ) → mark-of bs .kind < # IDENT
+pub mark-kind : (bs : List ℕ) → mark-of bs .kind < # STRING-LIT
 unfolding mark-of marks
 mark-kind bs =
     let n : length marks ≡ 25 = refl in
-    cond-has (λ (t : Token). t .kind < # IDENT) (eqb (longest-mark 5 marks bs .len) 0) _ _
+    cond-has (λ (t : Token). t .kind < # STRING-LIT) (eqb (longest-mark 5 marks bs .len) 0) _ _
     (λ e. omega arith) (λ e. omega (arith, longest-mark-between 5 marks bs .1, n))
 
 pub number-kind : (P : ℕ → Type 0) → P (# ERROR) → P (# INTEGER-LIT) → P (# REAL-LIT) → (bs : List ℕ) → P (number-of bs .kind)
@@ -245,6 +253,6 @@ number-kind P w n r bs =
 pub token-kind-small : (bs : List ℕ) → token-of bs .kind < 128
 unfolding word-of
 token-kind-small bs =
-    token-cases (λ (t : Token). t .kind < 128) bs (λ e. omega arith) (λ e. omega arith) (omega arith)
+    token-cases (λ (t : Token). t .kind < 128) bs (λ e. omega arith) (λ e. omega arith) (λ e. omega arith)
     (λ e. number-kind (λ (k : ℕ). k < 128) (omega arith) (omega arith) (omega arith) bs)
     (λ e. word-kind (take (run is-ident-continue bs) bs) .1) (omega (arith, mark-kind bs))

@@ -1,19 +1,24 @@
 -- The token words of a text, with any words behind them: where each token starts, and that its kind and its text come back from its word
--- (`Token-at`). By induction over the tokens, the bytes of one being dropped at a time. And what the sum of the lengths in any words says
--- of a token's text. Assumes nothing.
-use Prim.Native.Nat.{ℕ, zero, suc, _+_, _≤_, _<_, zero-le, suc-le-suc}
-use native.Mathlib.Nat.{not-suc-le-zero}
+-- (`Token-at`), since the words before it count the bytes before it (`counted`). What the sum of the lengths in any words says of a
+-- token's text; and that what holds of a text's words, with any behind them, holds of those that a call left (`filled-told`). Assumes nothing.
+use Prim.Native.Nat.{ℕ, zero, suc, _+_, _≤_, _<_}
+use native.Mathlib.Nat.{not-suc-le-zero, le-of-suc-le-suc}
 use native.Mathlib.Omega.{arith}
-use mathlib.Core.Path.{_≡_, refl, sym, ap, subst, _∙_}
+use mathlib.Core.Path.{_≡_, refl, sym, ap, ap₂, subst, _∙_}
 use mathlib.Core.List.{List, [], _∷_, _++_, map}
-use lib.ListN.{length, getD, take, drop, length-drop, length-map, length-append}
-use lib.Seq.{drop-drop}
-use borrow.Author.Tests.{lt-ltb, le-ltb, le-leb, lt-leb}
+use lib.ListN.{length, getD, take, drop, length-drop, length-map, length-append, List·getD-append, List·getD-map}
+use lib.Dec.{ltb}
+use borrow.Author.Tests.{lt-ltb, le-ltb, le-leb, lt-leb, ltb-false}
 use Rattle.aadl.specs.declared.Token.{Token}
-use Rattle.aadl.specs.Tokens.{token-of, tokens, tokens-after, token-word, length-in, kind-in, total, from-token, token-text}
-use Rattle.aadl.specs.Answers.{token-words}
-use Rattle.aadl.proofs.TokenBounds.{token-within, token-kind-small}
-use Rattle.aadl.proofs.TokensCover.{tokens-step}
+use Rattle.aadl.specs.declared.Answer.{Answer}
+use Rattle.aadl.specs.Limits.{Limits, Allowed}
+use Rattle.aadl.specs.Tokens.{token, token-of, tokens, lengths, token-word, length-in, kind-in, total, from-token, token-text}
+use Rattle.aadl.specs.Answers.{Check, token-words}
+use Rattle.aadl.proofs.Lists.{Each}
+use Rattle.aadl.proofs.TokenBounds.{token-positive, token-kind-small}
+use Rattle.aadl.proofs.TokensCover.{tokens-cover-text, kinds-small, token-by-number, lengths-around}
+use Rattle.aadl.proofs.Checks.{case-of, fails-by}
+use Rattle.aadl.proofs.Settled.{Lent, lent, five-numbers, Answered-whole}
 
 -- ANY WORDS ------------------------------------------------------------------------------------------------------------
 
@@ -42,56 +47,53 @@ module _ (t : Token) (h : t .kind < 128) (l : t .len < 65536) where
 
 -- THE WORDS OF A TEXT --------------------------------------------------------------------------------------------------
 
--- The word with number i is that of the token which starts behind the bytes that the words before it count.
-record Stands (text ts : List ℕ) (i : ℕ) : Type 0 where
-  inside : total (take i ts) < length text
-  word : getD ts i 0 ≡ token-word (token-of (from-token text ts i))
-
-module _ (rest : List ℕ) where
-  stands : (i : ℕ) (text : List ℕ) → length text < 65536 → i < length (tokens text) → Stands text (token-words text ++ rest) i
-  unfolding tokens tokens-after
-  stands zero [] s h = absurd (not-suc-le-zero h)
-  stands (suc i) [] s h = absurd (not-suc-le-zero h)
-  stands zero (b ∷ bs) s h = record { inside = suc-le-suc zero-le; word = refl }
-  stands (suc i) (b ∷ bs) s h =
-      let text = b ∷ bs in
-      let t = token-of text in
-      let w = token-within text (suc-le-suc zero-le) in
-      let e = tokens-step text (suc-le-suc zero-le) in
-      let behind = drop (t .len) text in
-      let before = total (take i (token-words behind ++ rest)) in
-      let n = length-back t (token-kind-small text) (omega (arith, s, w .1)) in
-      let next = stands i behind (omega (arith, s, length-drop (t .len) text)) (omega (arith, h, ap length e)) in
-      subst (λ (ts : List Token). Stands text (map token-word ts ++ rest) (suc i)) (sym e)
-      record {
-        inside = omega (arith, n, next .inside, length-drop (t .len) text);
-        word =
-            next .word
-            ∙ ap (λ (cs : List ℕ). token-word (token-of cs)) (drop-drop before (t .len) text ∙ sym (ap (λ (k : ℕ). drop (k + before) text) n));
-      }
+-- the words of some tokens count the bytes before each
+counted : (rest : List ℕ) (i : ℕ) (ts : List Token) → Each (λ (t : Token). t .kind < 128) ts → lengths ts < 65536 → i ≤ length ts →
+    total (take i (map token-word ts ++ rest)) ≡ lengths (take i ts)
+counted rest zero ts k l h = refl
+counted rest (suc i) [] k l h = absurd (not-suc-le-zero h)
+counted rest (suc i) (t ∷ ts) k l h =
+    ap₂ _+_ (length-back t (k .0) (omega (arith, l))) (counted rest i ts (k .1) (omega (arith, l)) (le-of-suc-le-suc h))
 
 -- The token with number i, among the token words of a text with any words behind: the bytes from its start on begin with it.
 pub record Token-at (text ts : List ℕ) (i : ℕ) : Type 0 where
   pub some : 1 ≤ length (from-token text ts i)
+  pub token-is : getD (tokens text) i (token 0 0) ≡ token-of (from-token text ts i)
   pub kind : kind-in (getD ts i 0) ≡ token-of (from-token text ts i) .kind
   pub text-is : token-text text ts i ≡ take (token-of (from-token text ts i) .len) (from-token text ts i)
 
 pub token-at : (text rest : List ℕ) (i : ℕ) → length text < 65536 → i < length (tokens text) → Token-at text (token-words text ++ rest) i
 token-at text rest i s h =
+    let d = token 0 0 in
+    let us = tokens text in
     let ts = token-words text ++ rest in
-    let e = stands rest i text s h in
+    let cover = tokens-cover-text text in
+    let before : total (take i ts) ≡ lengths (take i us) = counted rest i us (kinds-small text) (omega (arith, s, cover)) (omega (arith, h)) in
     let from = from-token text ts i in
     let t = token-of from in
-    let some : 1 ≤ length from = omega (arith, e .inside, length-drop (total (take i ts)) text) in
-    let w = token-within from some in
+    let same : getD us i d ≡ t = token-by-number i text d h ∙ ap (λ (k : ℕ). token-of (drop k text)) (sym before) in
+    let ends : total (take i ts) + t .len ≤ length text = omega (arith, before, ap (λ (u : Token). u .len) same, lengths-around i us d h, cover) in
+    let count = length-map us token-word in
+    let word : getD ts i 0 ≡ token-word t = List·getD-append (token-words text) rest 0 i (omega (arith, h, count)) ∙ List·getD-map token-word us i d ∙ ap token-word same in
     let k = token-kind-small from in
-    let l : t .len < 65536 = omega (arith, w .1, s, length-drop (total (take i ts)) text) in
-    let n : length-in (getD ts i 0) ≡ t .len = ap length-in (e .word) ∙ length-back t k l in
+    let l : t .len < 65536 = omega (arith, ends, s) in
+    let n : length-in (getD ts i 0) ≡ t .len = ap length-in word ∙ length-back t k l in
     record {
-      some = some;
-      kind = ap kind-in (e .word) ∙ kind-back t k l;
-      text-is =
-          text-at text ts i (omega (arith, h, length-append (token-words text) rest, length-map (tokens text) token-word))
-          (omega (arith, n, w .1, e .inside, length-drop (total (take i ts)) text))
-          ∙ ap (λ (m : ℕ). take m from) n;
+      some = omega (arith, ends, token-positive from, length-drop (total (take i ts)) text);
+      token-is = same;
+      kind = ap kind-in word ∙ kind-back t k l;
+      text-is = text-at text ts i (omega (arith, h, length-append (token-words text) rest, count)) (omega (arith, n, ends)) ∙ ap (λ (m : ℕ). take m from) n;
     }
+
+-- THE WORDS THAT A CALL LEFT -------------------------------------------------------------------------------------------
+
+-- P holds of a text's token words, their number and any words behind them. So of a call that answers by 01's five numbers and refuses nothing,
+-- whatever its checks: it passed check 1, counts the text's tokens, and its first buffer is filled.
+pub filled-told : (P : ℕ → List ℕ → Type 0) (limits : Limits) (text old ts : List ℕ) (cs : List Check) (all a : Answer) (buffers : List Lent) →
+    Allowed limits → case-of 1 cs ≡ ltb (limits .bytes) (length text) → all .tokens ≡ length (tokens text) →
+    Answered-whole five-numbers cs all a (lent old (token-words text) ts ∷ buffers) →
+    ((rest : List ℕ) → length text < 65536 → P (length (tokens text)) (token-words text ++ rest)) → P (a .tokens) ts
+filled-told P limits text old ts cs all a buffers allowed one count x holds =
+    let short = ltb-false (limits .bytes) (length text) (sym one ∙ fails-by 1 cs (x .none)) in
+    subst (λ (n : ℕ). P n ts) (sym (ap (λ (r : Answer). r .tokens) (x .counts) ∙ count))
+    (subst (P (length (tokens text))) (sym (x .filled .0)) (holds (drop (length (token-words text)) old) (omega (arith, allowed, short))))

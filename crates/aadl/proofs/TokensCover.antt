@@ -1,11 +1,13 @@
 -- The tokens of a text, one after another: each has at least one byte, and their lengths sum to the text's, so that every byte
--- belongs to exactly one token. Passing over k bytes is dropping them, and no token passes the end. Assumes nothing.
+-- belongs to exactly one token. Passing over k bytes is dropping them, and no token passes the end. The token with a number is the one that
+-- the bytes behind those before it begin with (`token-by-number`). Assumes nothing.
 use Prim.Native.Nat.{ℕ, zero, suc, _+_, _-_, _≤_, _<_, min, zero-le, suc-le-suc}
-use native.Mathlib.Nat.{not-suc-le-zero}
+use native.Mathlib.Nat.{not-suc-le-zero, le-of-suc-le-suc}
 use native.Mathlib.Omega.{arith}
 use mathlib.Core.Path.{_≡_, refl, ap, _∙_}
 use mathlib.Core.List.{List, [], _∷_}
-use lib.ListN.{length, drop}
+use lib.ListN.{length, getD, take, drop}
+use lib.Seq.{drop-drop}
 use Rattle.aadl.specs.declared.Token.{Token}
 use Rattle.aadl.specs.Tokens.{lengths, token-of, tokens-after, tokens}
 use Rattle.aadl.proofs.Lists.{Each, drop-past-head}
@@ -69,3 +71,21 @@ tokens-positive bs = each-token (λ (t : Token). 1 ≤ t .len) (λ cs h. token-w
 
 pub kinds-small : (bs : List ℕ) → Each (λ (t : Token). t .kind < 128) (tokens bs)
 kinds-small bs = each-token (λ (t : Token). t .kind < 128) (λ cs h. token-kind-small cs) bs
+
+-- BY NUMBER ------------------------------------------------------------------------------------------------------------
+
+pub token-by-number : (i : ℕ) (bs : List ℕ) (d : Token) → i < length (tokens bs) → getD (tokens bs) i d ≡ token-of (drop (lengths (take i (tokens bs))) bs)
+token-by-number zero [] d h = absurd (omega (arith, h, ap length (tokens-none [] zero-le)))
+token-by-number (suc i) [] d h = absurd (omega (arith, h, ap length (tokens-none [] zero-le)))
+token-by-number zero (b ∷ bs) d h = ap (λ (ts : List Token). getD ts 0 d) (tokens-step (b ∷ bs) (suc-le-suc zero-le))
+token-by-number (suc i) (b ∷ bs) d h =
+    let n = token-of (b ∷ bs) .len in
+    let rest = drop n (b ∷ bs) in
+    let e = tokens-step (b ∷ bs) (suc-le-suc zero-le) in
+    rw e (token-by-number i rest d (omega (arith, h, ap length e)) ∙ ap token-of (drop-drop (lengths (take i (tokens rest))) n (b ∷ bs)))
+
+-- Those before it, itself and those behind it have all bytes.
+pub lengths-around : (i : ℕ) (ts : List Token) (d : Token) → i < length ts → lengths (take i ts) + (getD ts i d .len + lengths (drop (suc i) ts)) ≡ lengths ts
+lengths-around i [] d h = absurd (not-suc-le-zero h)
+lengths-around zero (t ∷ ts) d h = omega arith
+lengths-around (suc i) (t ∷ ts) d h = omega (arith, lengths-around i ts d (le-of-suc-le-suc h))

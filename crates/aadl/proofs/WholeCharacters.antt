@@ -195,7 +195,7 @@ token-between : (b : ℕ) (bs : List ℕ) → Formed 0 (b ∷ bs) → Between (b
 unfolding word-of
 token-between b bs f =
     token-cases (λ (t : Token). Between (b ∷ bs) (t .len)) (b ∷ bs) (λ e. run-between is-whitespace low-whitespace (b ∷ bs) f)
-    (λ e. line-between (b ∷ bs)) (string-between b bs f) (λ e. number-between (b ∷ bs) f)
+    (λ e. line-between (b ∷ bs)) (λ e. string-between b bs f) (λ e. number-between (b ∷ bs) f)
     (λ e. run-between is-ident-continue low-word (b ∷ bs) f) (mark-between b bs f)
 
 first-tokens : (bs : List ℕ) (m : ℕ) → Formed 0 bs → Between bs (lengths (take m (tokens bs)))

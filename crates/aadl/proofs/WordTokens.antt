@@ -7,7 +7,7 @@ use native.Mathlib.Omega.{arith}
 use mathlib.Core.Path.{_≡_, refl, sym, ap, ap₂, subst, _∙_}
 use mathlib.Core.Bool.{Bool, true, false, _&&_}
 use mathlib.Core.List.{List, [], _∷_, _++_, map, append-nil}
-use lib.ListN.{length, getD, take, drop, length-map}
+use lib.ListN.{length, getD, take, length-map}
 use lib.Seq.{getD-take, length-take-le, take-append-seam}
 use lib.Dec.{eqb, ltb}
 use borrow.Author.Tests.{eqb-true, eq-eqb, ltb-true, ltb-false}
@@ -20,16 +20,15 @@ use Rattle.aadl.specs.Words.{words, table, row, lower, kind-of-word}
 use Rattle.aadl.specs.Bytes.{peek, run, is-ident-start, is-ident-continue}
 use Rattle.aadl.specs.Tokens.{token, word-of, token-of, tokens, kind-in, from-token, token-text}
 use Rattle.aadl.specs.WordKinds.{Mixed, Own-kind, is-word, Words-told}
-use Rattle.aadl.specs.Answers.{Check, text-checks, answered, tokens-answer, left-in, token-words}
+use Rattle.aadl.specs.Answers.{text-checks, all-tokens, tokens-answer, left-in, token-words}
 use Rattle.aadl.proofs.Bools.{below-at}
 use Rattle.aadl.proofs.RunLaws.{run-taken, run-none}
 use Rattle.aadl.proofs.SameRuns.{run-same}
 use Rattle.aadl.proofs.TokenBounds.{run-within, token-within}
 use Rattle.aadl.proofs.KeywordKinds.{row-is-lower, own-kind}
 use Rattle.aadl.proofs.LowerCase.{word-starts, token-of-word, word-whole, lower-starts, run-lower}
-use Rattle.aadl.proofs.TokenText.{Token-at, token-at}
-use Rattle.aadl.proofs.Checks.{case-of, fails-by}
-use Rattle.aadl.proofs.Settled.{Lent, lent, five-numbers, Answered-whole, whole}
+use Rattle.aadl.proofs.TokenText.{Token-at, token-at, filled-told}
+use Rattle.aadl.proofs.Settled.{tokens-answer-is-whole}
 
 -- THE FIRST TOKEN OF SOME BYTES ----------------------------------------------------------------------------------------
 
@@ -107,24 +106,12 @@ words-told text rest s =
     at : (i : ℕ) → i < length (tokens text) → Token-at text ts i
     at i h = token-at text rest i s h
 
--- Of a call that answers by 01's five numbers and refuses nothing, whatever its checks: it passed check 1, counts the text's tokens, and its
--- first buffer is filled.
-pub filled-told : (limits : Limits) (text old ts : List ℕ) (cs : List Check) (all a : Answer) (buffers : List Lent) → Allowed limits →
-    case-of 1 cs ≡ ltb (limits .bytes) (length text) → all .tokens ≡ length (tokens text) →
-    Answered-whole five-numbers cs all a (lent old (token-words text) ts ∷ buffers) → Words-told text (a .tokens) ts
-filled-told limits text old ts cs all a buffers allowed one count x =
-    let short = ltb-false (limits .bytes) (length text) (sym one ∙ fails-by 1 cs (x .none)) in
-    subst (λ (n : ℕ). Words-told text n ts) (sym (ap (λ (r : Answer). r .tokens) (x .counts) ∙ count))
-    (subst (Words-told text (length (tokens text))) (sym (x .filled .0)) (words-told text (drop (length (token-words text)) old) (omega (arith, allowed, short))))
-
 -- Of the tokens-only call, to which the words old were lent and which left the words ts.
 pub tokens-told : (limits : Limits) (text old ts : List ℕ) (a : Answer) → Allowed limits → a ≡ tokens-answer limits text (length old) →
     ts ≡ left-in a (token-words text) old → a .number ≡ 0 → Words-told text (a .tokens) ts
-unfolding tokens-answer left-in
 tokens-told limits text old ts a allowed e w z =
-    let cs = text-checks limits text (length old) in
-    let all = answered (length (tokens text)) 0 0 in
-    filled-told limits text old ts cs all a [] allowed refl refl (whole five-numbers cs refl all a e refl (lent old (token-words text) ts ∷ []) (w, tt) z)
+    filled-told (Words-told text) limits text old ts (text-checks limits text (length old)) (all-tokens text) a [] allowed refl refl
+    (tokens-answer-is-whole limits text old ts a e w z) (words-told text)
 
 -- ONE OF THE EIGHTY-ONE WORDS, AND ANY OTHER ---------------------------------------------------------------------------
 

@@ -1,5 +1,5 @@
--- The six refusals with their cases, places and order, what the two calls answer, and every word of the lent buffers at exit.
--- Assumes nothing.
+-- 01's six refusals and 02's 8 with their cases, places and order, what the two calls answer, and every word of the lent buffers at
+-- exit. Assumes nothing.
 use Prim.Native.Nat.{ℕ}
 use mathlib.Core.Bool.{Bool, not, cond}
 use mathlib.Core.List.{List, [], _∷_, _++_, map}
@@ -11,7 +11,7 @@ use Rattle.aadl.specs.declared.Answer.{Answer}
 use Rattle.aadl.specs.Limits.{Limits}
 use Rattle.aadl.specs.Kinds.{PROPERTIES-KW, #_}
 use Rattle.aadl.specs.Utf8.{ill-formed}
-use Rattle.aadl.specs.Tokens.{tokens, lengths, token-word}
+use Rattle.aadl.specs.Tokens.{tokens, lengths, unclosed, token-word}
 use Rattle.aadl.specs.Symbols.{symbols, start-of}
 use Rattle.aadl.specs.Encoding.{room, words-of}
 use Rattle.aadl.specs.Reading.{events, pushed, too-deep}
@@ -20,12 +20,14 @@ use Rattle.aadl.specs.Reading.{events, pushed, too-deep}
 pub data Check : Type 0 where
   check : (number : ℕ) → (case : Bool) → (place : ℕ) → Check
 
--- 01's table of checks: those of both calls, m token words being lent ..
+-- 01's table of checks: those of both calls, m token words being lent; with 02's "8 for an unclosed string, after 3 and before 4, its
+-- place the opening quote" ..
 abbrev pub text-checks : Limits → List ℕ → (m : ℕ) → List Check
 text-checks limits text m =
     check 1 (ltb (limits .bytes) (length text)) (limits .bytes)
     ∷ check 2 (not (eqb (ill-formed text) (length text))) (ill-formed text)
     ∷ check 3 (ltb m (length (tokens text))) (lengths (take m (tokens text)))
+    ∷ check 8 (not (eqb (unclosed (tokens text)) (length text))) (unclosed (tokens text))
     ∷ []
 
 -- .. and those of the section call alone, with room for n events. 5 and 6 go by reading order: of the events pushed before an opener
@@ -51,9 +53,12 @@ module _ {A : Type 0} (refusing : (number place : ℕ) → A) where
   checked [] a = a
   checked (check n case place ∷ cs) a = cond case (refusing n place) (checked cs a)
 
--- "The tokens-only call lends no event words, has 1 to 3 and answers taken and events 0."
+-- "The tokens-only call lends no event words, has 1 to 3 and answers taken and events 0"; it has 8 "too".
+abbrev pub all-tokens : (text : List ℕ) → Answer
+all-tokens text = answered (length (tokens text)) 0 0
+
 unfoldable pub tokens-answer : Limits → (text : List ℕ) → (lent : ℕ) → Answer
-tokens-answer limits text m = checked refused (text-checks limits text m) (answered (length (tokens text)) 0 0)
+tokens-answer limits text m = checked refused (text-checks limits text m) (all-tokens text)
 
 -- What the section call counts where nothing is refused.
 abbrev pub all-answered : Limits → (text : List ℕ) → Answer

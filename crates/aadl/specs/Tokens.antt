@@ -13,8 +13,9 @@ use Rattle.aadl.specs.Words.{bytes, kind-of-word}
 use Rattle.aadl.specs.Utf8.{sequence}
 use Rattle.aadl.specs.Bytes.{peek, within, is-whitespace, is-digit, is-hex-digit, is-ident-start, is-ident-continue, is-exponent, is-sign, is-grouped, is-based, not-lf, run, run-end}
 
+-- A token of a kind and a length. Nothing but a string can be not closed.
 abbrev pub token : ℕ → ℕ → Token
-token k n = record { kind = k; len = n }
+token k n = record { kind = k; len = n; closed = true }
 
 -- STRINGS --------------------------------------------------------------------------------------------------------------
 
@@ -32,6 +33,10 @@ quoted q (b ∷ bs) =
 -- The string whose opening quote is the first byte.
 unfoldable pub string-of : List ℕ → Quoted
 string-of bs = more-quoted (quoted false (drop 1 bs))
+
+-- 02's request Four: "Reading a string must now tell whether it was closed", and its token hands that up.
+abbrev pub string-lit : Quoted → Token
+string-lit q = record { kind = # STRING-LIT; len = q .len; closed = q .closed }
 
 -- NUMBERS --------------------------------------------------------------------------------------------------------------
 
@@ -125,7 +130,7 @@ unfoldable pub token-of : List ℕ → Token
 token-of bs =
     cond (is-whitespace (peek bs 0)) (token (# WHITESPACE) (run is-whitespace bs))
     (cond (eqb (peek bs 0) 45 && eqb (peek bs 1) 45) (token (# COMMENT) (run not-lf bs))
-    (cond (eqb (peek bs 0) 34) (token (# STRING-LIT) (string-of bs .len))
+    (cond (eqb (peek bs 0) 34) (string-lit (string-of bs))
     (cond (is-digit (peek bs 0)) (token (number-of bs .kind) (number-of bs .len))
     (cond (is-ident-start (peek bs 0)) (word-of bs)
     (mark-of bs)))))
@@ -144,6 +149,13 @@ tokens bs = tokens-after 0 bs
 abbrev pub lengths : List Token → ℕ
 lengths [] = 0
 lengths (t ∷ ts) = t .len + lengths ts
+
+-- Where the first of some tokens that is not closed starts, or where they end if there is none.
+abbrev pub unclosed : List Token → ℕ
+unclosed [] = 0
+unclosed (t ∷ ts) =
+    let later = t .len + unclosed ts in
+    cond (t .closed) later 0
 
 -- "Kind × 65,536 + length in bytes."
 abbrev pub token-word : Token → ℕ

@@ -1,10 +1,11 @@
 // What document 01 says, as definitions: specs/ holds them, proofs/ holds what follows from them. The structs here are what the
 // definitions give and the functions of later crates return.
 
-// A token at the front of some bytes: its kind and its length in bytes.
+// A token at the front of some bytes: its kind, its length in bytes, and whether it is closed, which all but some strings are.
 pub struct Token {
     pub kind: u32,
     pub len: usize,
+    pub closed: bool,
 }
 
 // A string at the front of some bytes: its length in bytes with both quotes, and whether it was closed.

@@ -4,11 +4,11 @@ use Prim.Native.Nat.{ℕ, suc, _+_, _-_, _≤_, _<_, min, zero-le}
 use native.Mathlib.Nat.{zero-add, sub-zero, le-refl}
 use native.Mathlib.Numerals.{add-one}
 use native.Mathlib.Omega.{arith}
-use mathlib.Core.Path.{_≡_, refl, sym, ap, _∙_}
+use mathlib.Core.Path.{_≡_, refl, sym, ap, ap₂, _∙_}
 use mathlib.Core.Bool.{true, false}
 use mathlib.Core.List.{List, [], _∷_, _++_, append-assoc, append-nil}
 use lib.ListN.{length, drop, take, set, length-drop, length-set, length-map, drop-of-length-le, take-append-drop}
-use lib.Seq.{drop-cons, take-suc-set, drop-set-lt, drop-drop, take-all, take-nil}
+use lib.Seq.{drop-cons, take-suc-set, drop-set-lt, drop-drop, take-all, take-nil, take-append-seam}
 use lib.Dec.{ltb}
 use borrow.Author.Tests.{lt-ltb, le-ltb, ltb-true, ltb-false}
 use Rattle.aadl.specs.declared.Token.{Token}
@@ -133,3 +133,8 @@ module _ (text : List ℕ) (m : ℕ) (f : Filled) (e : f ≡ filled-of text m) w
 -- Where all tokens have a word, the words are theirs, and then the old contents.
 pub all-written : (text old : List ℕ) → length (tokens text) ≤ length old → write (token-words text) old ≡ token-words text ++ drop (length (token-words text)) old
 all-written text old h = write-fits (token-words text) old (omega (arith, length-map (tokens text) token-word))
+
+pub first-written : (text old : List ℕ) (n : ℕ) → length (tokens text) ≤ length old → n ≡ length (tokens text) → take n (write (token-words text) old) ≡ token-words text
+first-written text old n h e =
+    let m = e ∙ sym (length-map (tokens text) token-word) in
+    ap₂ take m (all-written text old h) ∙ take-append-seam (token-words text) (drop (length (token-words text)) old)

@@ -1,4 +1,5 @@
 pub mod FirstWords
 pub mod FrontLaws
 pub mod FillLaws
+pub mod LastToken
 pub mod SequenceLaws

@@ -1,4 +1,4 @@
-// The tokens-only call: UTF-8, tokens, refusals 1 to 3; and the text of a token by its number.
+// The tokens-only call: UTF-8, tokens, refusals 1 to 3 and 8; and the text of a token by its number.
 
 use aadl::Answer;
 use aadl::Limits;
@@ -7,17 +7,20 @@ use classes::is_ascii;
 use classes::lead_table;
 use classes::sequence_at;
 use classes::skip_ascii;
+use codec::kind_in;
 use codec::length_in;
 use codec::token_word;
 use keywords::word_tables;
+use scan::scan_string;
 use scan::scan_token;
 use scan::word_bound;
+use syntax_kind::STRING_LIT;
 ghost use mathlib.Core.Path.{_≡_};
 ghost use Prim.Native.Nat.{_+_, _≤_, min};
 ghost use lib.ListN.{length, take, replicate};
 ghost use Rattle.aadl.specs.Limits.{base, Allowed};
 ghost use Rattle.aadl.specs.Utf8.{ill-formed};
-ghost use Rattle.aadl.specs.Tokens.{total, token-text};
+ghost use Rattle.aadl.specs.Tokens.{tokens, unclosed, total, token-text};
 ghost use Rattle.aadl.specs.WordKinds.{Words-told};
 ghost use Rattle.aadl.specs.Answers.{refused, tokens-answer, token-words, left-in};
 ghost use Rattle.lexer.specs.Filling.{write, filled-of};
@@ -96,6 +99,26 @@ fn fill(s: &[u8], tokens: &mut [u32]) -> Filled
     }
 }
 
+// Where the last token starts if it is a string that is not closed, else the text's length: no other token can be one, so that one look is
+// enough. The words are those of the text's tokens.
+fn unclosed_at(s: &[u8], words: &[u32]) -> usize
+    requires { ⌜ (length (now s) ≤ base .bytes) × (now words ≡ token-words (now s)) ⌝ }
+    ensures { λ r. ⌜ r ≡ unclosed (tokens (now (s .entry))) ⌝ }
+{
+    if words.len() == 0 {
+        return s.len();
+    }
+    let last = words[words.len() - 1];
+    if kind_in(last) != STRING_LIT {
+        return s.len();
+    }
+    let at = s.len() - length_in(last);
+    if scan_string(s, at).closed {
+        return s.len();
+    }
+    at
+}
+
 // Zeroes every word.
 pub fn clear(words: &mut [u32])
     ensures { λ r. ⌜ now (words .exit) ≡ replicate (length (now (words .entry))) 0 ⌝ }
@@ -172,7 +195,7 @@ pub fn refuse(tokens: &mut [u32], number: u32, place: usize) -> Answer
     }
 }
 
-// The tokens-only call within limits: the tokens of a text into lent words, or one of the refusals 1 to 3 with all words zeroed.
+// The tokens-only call within limits: the tokens of a text into lent words, or one of the refusals 1 to 3 and 8 with all words zeroed.
 pub fn tokenize_within(src: &[u8], tokens: &mut [u32], limits: Limits) -> Answer
     requires { ⌜ Allowed limits ⌝ }
     ensures answered { λ r. ⌜ r ≡ tokens-answer limits (now (src .entry)) (length (now (tokens .entry))) ⌝ }
@@ -192,6 +215,10 @@ pub fn tokenize_within(src: &[u8], tokens: &mut [u32], limits: Limits) -> Answer
         return refuse(tokens, 3, at);
     }
     let n = f.count;
+    let p = unclosed_at(src, &tokens[..n]);
+    if p != src.len() {
+        return refuse(tokens, 8, p);
+    }
     Answer {
         number: 0,
         place: 0,
@@ -201,7 +228,7 @@ pub fn tokenize_within(src: &[u8], tokens: &mut [u32], limits: Limits) -> Answer
     }
 }
 
-// The tokens-only call: the tokens of a text into lent words, or one of the refusals 1 to 3 with all words zeroed.
+// The tokens-only call: the tokens of a text into lent words, or one of the refusals 1 to 3 and 8 with all words zeroed.
 pub fn tokenize(src: &[u8], tokens: &mut [u32]) -> Answer
     ensures answered { λ r. ⌜ r ≡ tokens-answer base (now (src .entry)) (length (now (tokens .entry))) ⌝ }
     ensures token_words { λ r. ⌜ now (tokens .exit) ≡ left-in r (token-words (now (src .entry))) (now (tokens .entry)) ⌝ }

@@ -12,7 +12,7 @@ use borrow.Author.Tests.{not-true}
 use Rattle.predictive.proofs.Tests.{never, or-neither}
 use Rattle.aadl.specs.Kinds.{#_, WHITESPACE, COMMENT, INTEGER-LIT, STRING-LIT, IDENT}
 use Rattle.aadl.specs.Bytes.{peek, is-whitespace, is-digit, is-ident-start, is-ident-continue, not-lf, run, run-end}
-use Rattle.aadl.specs.Tokens.{token, string-of, number-of, word-of, marks, mark-of, token-of}
+use Rattle.aadl.specs.Tokens.{token, string-of, string-lit, number-of, word-of, marks, mark-of, token-of}
 use Rattle.aadl.proofs.RunLaws.{run-more, run-rest}
 use Rattle.aadl.proofs.Bools.{below, below-at}
 use Rattle.classes.specs.Classes.{BEGINS-OTHERS, lead-of}
@@ -71,7 +71,7 @@ module _ (s : List ℕ) (at : ℕ) where
       let z = first-sorted s at _ h in
       ap (token (# WHITESPACE)) (run-on s at _ h is-whitespace (z .white)) ∙ rw (z .white) refl
 
-  pub string-token : Begins s at (# STRING-LIT) → token (# STRING-LIT) (string-of (drop at s) .len) ≡ token-of (drop at s)
+  pub string-token : Begins s at (# STRING-LIT) → string-lit (string-of (drop at s)) ≡ token-of (drop at s)
   unfolding token-of
   string-token h =
       let z = first-sorted s at _ h in

@@ -21,6 +21,7 @@ use Rattle.aadl.specs.Utf8.{sequence}
 use Rattle.aadl.specs.Words.{bytes}
 use Rattle.aadl.specs.Tokens.{token, marks, longest-mark, mark-of, token-of}
 use Rattle.aadl.proofs.Lists.{every}
+use Rattle.aadl.proofs.Unclosed.{longest-closed}
 use Rattle.classes.specs.Classes.{in-longer, is-second, lead-of}
 use Rattle.cursor.specs.declared.Window.{Window}
 use Rattle.cursor.specs.Window.{window-of}
@@ -139,6 +140,10 @@ module _ (bs : List ℕ) (t : Token) (e : t ≡ longest bs) where
 
 -- MARKS BY THEIR FIRST BYTE --------------------------------------------------------------------------------------------
 
+-- a mark by its kind and its length, since every mark is closed
+mark-by : (bs : List ℕ) (k n : ℕ) → k ≡ longest bs .kind → n ≡ longest bs .len → token k n ≡ longest bs
+mark-by bs k n e f = λ i. record { kind = e i; len = f i; closed = sym (longest-closed 5 marks bs) i }
+
 -- a byte that says the kind of a mark which no other begins with
 abbrev lone : ℕ → Bool
 lone b = ltb (# WHITESPACE) (lead-of b) && ltb (lead-of b) (# INTEGER-LIT)
@@ -150,7 +155,7 @@ lone-mark b bs l e =
     let no-longer = longer-from 0 marks (b ∷ bs) (omega arith) (not-true (in-longer 0 marks b) (all-bytes lone (λ (b : ℕ). not (in-longer 0 marks b)) refl b l e)) in
     let k = eqb-true (t .kind) (lead-of b) (all-bytes lone (λ (b : ℕ). eqb (longest (b ∷ []) .kind) (lead-of b)) refl b l e) in
     let n = eqb-true (t .len) 1 (all-bytes lone (λ (b : ℕ). eqb (longest (b ∷ []) .len) 1) refl b l e) in
-    let is : token (lead-of b) 1 ≡ longest (b ∷ bs) = sym (longest-first b bs no-longer ∙ (λ i. token (k i) (n i))) in
+    let is : token (lead-of b) 1 ≡ longest (b ∷ bs) = mark-by (b ∷ []) (lead-of b) 1 (sym k) (sym n) ∙ sym (longest-first b bs no-longer) in
     mark-stands (b ∷ bs) (token (lead-of b) 1) is some
     ∙ token-is-mark (b ∷ bs) (all-bytes lone begins-mark refl b l e) (and-false-l (eqb b 45) (eqb (peek (b ∷ bs) 1) 45) (not-true (eqb b 45) (all-bytes lone (λ (b : ℕ). not (eqb b 45)) refl b l e)))
   where
@@ -174,7 +179,7 @@ other-single s at k h o =
     let n = single (lead-of b % 64) in
     let k′ = eqb-true (n .kind) (t .kind) (all-bytes begins-mark (λ (b : ℕ). eqb (single (lead-of b % 64) .kind) (longest (b ∷ []) .kind)) refl b (h .byte) m) in
     let l′ = eqb-true (n .len) (t .len) (all-bytes begins-mark (λ (b : ℕ). eqb (single (lead-of b % 64) .len) (longest (b ∷ []) .len)) refl b (h .byte) m) in
-    ap (λ (j : ℕ). single (j % 64)) (sym (h .leads)) ∙ (λ i. token (k′ i) (l′ i)) ∙ ap (λ (x : ℕ). longest (x ∷ [])) (first-byte s at k h)
+    ap (λ (j : ℕ). single (j % 64)) (sym (h .leads)) ∙ mark-by (b ∷ []) (n .kind) (n .len) k′ l′ ∙ ap (λ (x : ℕ). longest (x ∷ [])) (first-byte s at k h)
 
 module _ (s : List ℕ) (at k : ℕ) (h : Begins s at k) (o : Other k) (w : Window) (e : w ≡ window-of s at) where
   pub single-of-window : single (k % 64) ≡ longest (w .first ∷ [])

@@ -2,6 +2,7 @@
 // there, as aadl's `token-of` has it. `scan_token` goes by the first byte to the scanner of its sort, which asks for such a byte and does
 // not look at it again. The tables are lent, as in `classes`.
 
+use aadl::Quoted;
 use aadl::Token;
 use classes::BASED;
 use classes::BEGINS_OTHERS;
@@ -55,7 +56,11 @@ ghost use Rattle.scan.specs.Places.{Begins, Dashes, last-gap, Bounds, Ot
 fn token(kind: u32, len: usize) -> Token
     ensures { λ r. ⌜ r ≡ token kind len ⌝ }
 {
-    Token { kind, len }
+    Token {
+        kind,
+        len,
+        closed: true,
+    }
 }
 
 // WHITESPACE, COMMENTS, STRINGS
@@ -75,29 +80,41 @@ fn scan_comment(s: &[u8], at: usize) -> Token
     token(COMMENT, next_byte(s, at + 2, b'\n') - at)
 }
 
-// The place after the string whose bytes begin at a place: behind the next quote that is not doubled, or the end.
-fn string_end(s: &[u8], from: usize) -> usize
-    ensures { λ r. ⌜ r ≡ from + quoted false (drop from (now (s .entry))) .len ⌝ }
+// What of the bytes from a place on belongs to the string whose opening quote is before them: up to the next quote that is not doubled, which
+// closes it, or to the end.
+fn quoted(s: &[u8], from: usize) -> Quoted
+    ensures { λ r. ⌜ r ≡ quoted false (drop from (now (s .entry))) ⌝ }
 {
     let mut i = from;
     while i < s.len() {
         if s[i] == b'"' {
             if peek(s, i + 1) != b'"' {
-                return i + 1;
+                return Quoted {
+                    len: i + 1 - from,
+                    closed: true,
+                };
             }
             i += 2;
         } else {
             i += 1;
         }
     }
-    i
+    Quoted {
+        len: i - from,
+        closed: false,
+    }
 }
 
-fn scan_string(s: &[u8], at: usize) -> Token
+pub fn scan_string(s: &[u8], at: usize) -> Token
     requires { ⌜ Begins (now s) at (# STRING-LIT) ⌝ }
     ensures { λ r. ⌜ r ≡ token-of (drop at (now (s .entry))) ⌝ }
 {
-    token(STRING_LIT, string_end(s, at + 1) - at)
+    let q = quoted(s, at + 1);
+    Token {
+        kind: STRING_LIT,
+        len: q.len + 1,
+        closed: q.closed,
+    }
 }
 
 // NUMBERS

@@ -13,7 +13,7 @@ use Rattle.aadl.specs.declared.Limits.{Limits}
 use Rattle.aadl.specs.Limits.{Allowed}
 use Rattle.aadl.specs.Tokens.{tokens, token-word}
 use Rattle.aadl.specs.Encoding.{room}
-use Rattle.aadl.specs.Answers.{text-checks, section-checks, answered, all-answered, refused, tokens-answer, section-answer, left-in, token-words, event-words}
+use Rattle.aadl.specs.Answers.{text-checks, section-checks, answered, all-answered, refused, all-tokens, tokens-answer, section-answer, left-in, token-words, event-words}
 use Rattle.aadl.proofs.Checks.{fails-by, checks-pass, first-refuses}
 use Rattle.aadl.proofs.AnswerLaws.{left-by-refusal, left-answered}
 use Rattle.aadl.proofs.Settled.{five-numbers, whole, number-small, tokens-answer-is-settled}
@@ -27,7 +27,7 @@ use Rattle.section.proofs.Demands.{Called}
 record Passed (limits : Limits) (text : List ℕ) (m : ℕ) : Type 0 where
   short : length text ≤ limits .bytes
   fits : length (tokens text) ≤ m
-  answer : tokens-answer limits text m ≡ answered (length (tokens text)) 0 0
+  answer : tokens-answer limits text m ≡ all-tokens text
   checks-on : (n : ℕ) → section-answer limits text m n ≡ section-reply limits text (room n)
 
 module _ (limits : Limits) (text : List ℕ) (m : ℕ) where
@@ -36,13 +36,13 @@ module _ (limits : Limits) (text : List ℕ) (m : ℕ) where
   unfolding tokens-answer section-answer
   text-refused n f =
       first-refuses refused (λ (a : Answer). a .number) (text-checks limits text m) (section-checks limits text (room n))
-      (answered (length (tokens text)) 0 0) (all-answered limits text) refl f
+      (all-tokens text) (all-answered limits text) refl f
 
   text-passed : tokens-answer limits text m .number ≡ 0 → Passed limits text m
   unfolding tokens-answer section-answer section-reply
   text-passed e =
       let cs = text-checks limits text m in
-      let w = whole five-numbers cs refl (answered (length (tokens text)) 0 0) (tokens-answer limits text m) refl refl [] tt e in
+      let w = whole five-numbers cs refl (all-tokens text) (tokens-answer limits text m) refl refl [] tt e in
       record {
         short = ltb-false (limits .bytes) (length text) (fails-by 1 cs (w .none));
         fits = ltb-false m (length (tokens text)) (fails-by 3 cs (w .none));

@@ -7,14 +7,13 @@ use mathlib.Core.Bool.{Bool, true, false, cond}
 use mathlib.Core.List.{List, [], _∷_, map}
 use lib.ListN.{length}
 use Rattle.predictive.specs.Events.{erring, any-fault}
-use Rattle.aadl.specs.declared.Token.{Token}
 use Rattle.aadl.specs.Tokens.{kind-in}
 use Rattle.aadl.specs.Symbols.{is-trivia, without-trivia, kinds}
 use Rattle.aadl.specs.Encoding.{class-in, last-in, event-by, event-in}
 use Rattle.aadl.specs.Answers.{token-words}
 use Rattle.aadl.specs.Demand.{solid-words}
 use Rattle.parser.specs.Input.{token-in}
-use Rattle.section.proofs.WordsBack.{token-words-back}
+use Rattle.section.proofs.WordsBack.{kinds-back}
 
 -- WORD BY WORD ---------------------------------------------------------------------------------------------------------
 
@@ -66,5 +65,4 @@ solid-is (w ∷ ws) = go (is-trivia (kind-in w)) (solid-is ws)
     go false e = ap suc e
 
 pub solid-kinds : (text : List ℕ) → length text < 65536 → solid-words (token-words text) ≡ length (kinds text)
-unfolding kinds
-solid-kinds text h = solid-is (token-words text) ∙ ap (λ (l : List Token). length (without-trivia l)) (token-words-back text h)
+solid-kinds text h = solid-is (token-words text) ∙ ap length (kinds-back text h)

@@ -25,7 +25,9 @@ use Rattle.aadl.specs.Demand.{answered-events, Clean-answer, solid-words, is-cl
 use Rattle.aadl.proofs.Checks.{fails-by}
 use Rattle.aadl.proofs.Settled.{Lent, lent, five-numbers, Answered-whole, Settled, settled, whole}
 use Rattle.aadl.proofs.AnswerDerived.{answer-derived}
-use Rattle.aadl.proofs.WordTokens.{filled-told}
+use Rattle.aadl.proofs.TokenText.{filled-told}
+use Rattle.aadl.proofs.WordTokens.{words-told}
+use Rattle.aadl.proofs.StringTokens.{Strings-closed, filled-closed}
 use Rattle.section.proofs.CleanLaws.{solid-kinds}
 
 -- What the contract of the section call says of its answer a and the token and event words ts and es, where the words old and last were lent.
@@ -34,7 +36,7 @@ pub record Called (limits : Limits) (text old last : List ℕ) (a : Answer) (ts 
   pub token-words-left : ts ≡ left-in (section-answer limits text (length old) (length last)) (token-words text) old
   pub event-words-left : es ≡ left-in (section-answer limits text (length old) (length last)) (event-words limits text) last
 
--- 01's six checks in their order
+-- its seven checks in their order: 01's six, and 8 behind 3
 abbrev pub checks : Limits → (text old last : List ℕ) → List Check
 checks limits text old last = text-checks limits text (length old) ++ section-checks limits text (room (length last))
 
@@ -90,7 +92,14 @@ module _ {limits : Limits} {text old last : List ℕ} {a : Answer} {ts es : List
   -- Of the token words: each of the eighty-one words in any mix of ASCII case has its own kind, every other word is IDENT.
   pub every-word-is-told : Allowed limits → a .number ≡ 0 → Words-told text (a .tokens) ts
   every-word-is-told h z =
-      filled-told limits text old ts (checks limits text old last) (all-answered limits text) a (lent last (event-words limits text) es ∷ []) h refl refl (whole-answer z)
+      filled-told (Words-told text) limits text old ts (checks limits text old last) (all-answered limits text) a (lent last (event-words limits text) es ∷ []) h refl refl
+      (whole-answer z) (words-told text)
+
+  -- The text of each token that is a string, read by itself, is one string that is closed.
+  pub every-string-is-closed : Allowed limits → a .number ≡ 0 → Strings-closed text (a .tokens) ts
+  every-string-is-closed h z =
+      filled-closed limits text old ts (checks limits text old last) (all-answered limits text) a (lent last (event-words limits text) es ∷ []) h refl refl refl
+      (whole-answer z)
 
   -- The test of the function `is_clean` is exact: it tells whether the answer is clean as demand 3 has it.
   pub clean-is-told : Allowed limits → a .number ≡ 0 → (is-clean a ts es ≡ true) ↔ Clean-answer text a es

@@ -15,7 +15,7 @@ use Rattle.aadl.specs.Answers.{token-words}
 use Rattle.parser.specs.declared.Parser.{Parser}
 use Rattle.parser.specs.declared.Place.{Place}
 use Rattle.parser.specs.Input.{input, token-in, standing, rest, past, skip, after-one, next, new}
-use Rattle.section.proofs.WordsBack.{token-words-back, total-token-words}
+use Rattle.section.proofs.WordsBack.{placed-back, total-token-words}
 
 -- the non-trivia tokens of words, the first of which starts at a byte
 abbrev pub placed-words : (text : List ℕ) → (byte : ℕ) → (words : List ℕ) → List Placed
@@ -137,7 +137,7 @@ pub new-behind : (text : List ℕ) (l : ℕ) → length text < 65536 → Behind 
 unfolding new
 new-behind text l h =
     let ws = token-words text in
-    record { where-it-is = skip-stood text ws (placed text 0 (tokens text)) 0 0 ws refl (omega (arith, total-token-words text h)) (ap (placed text 0) (token-words-back text h)) }
+    record { where-it-is = skip-stood text ws (placed text 0 (tokens text)) 0 0 ws refl (omega (arith, total-token-words text h)) (placed-back text h) }
 
 pub next-behind : (text : List ℕ) (k : ℕ) (p q : Parser) → Behind text k p → q .at ≡ next (input text (token-words text)) p .at →
     q .byte ≡ next (input text (token-words text)) p .byte → Behind text (suc k) q

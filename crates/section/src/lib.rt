@@ -1,4 +1,4 @@
-// The section call: tokens, section and the six refusals in one answer.
+// The section call: tokens, section and the seven refusals in one answer.
 
 use aadl::Answer;
 use aadl::Limits;
@@ -37,7 +37,7 @@ fn read(text: &[u8], toks: &[u32], events: &mut [u32], limits: Limits) -> Parser
 }
 
 // The section call within limits: the tokens of a text and the events of its section into lent words, or one of the refusals 1 to 6
-// with all words zeroed.
+// and 8 with all words zeroed.
 pub fn property_section_within(
     src: &[u8],
     tokens: &mut [u32],
@@ -69,8 +69,8 @@ pub fn property_section_within(
     }
 }
 
-// The section call: the tokens of a text and the events of its section into lent words, or one of the refusals 1 to 6 with all words
-// zeroed.
+// The section call: the tokens of a text and the events of its section into lent words, or one of the refusals 1 to 6 and 8 with all
+// words zeroed.
 pub fn property_section(src: &[u8], tokens: &mut [u32], events: &mut [u32]) -> Answer
     ensures answered { λ r. ⌜ r ≡ section-answer base (now (src .entry)) (length (now (tokens .entry))) (length (now (events .entry))) ⌝ }
     ensures token_words { λ r. ⌜ now (tokens .exit) ≡ left-in (section-answer base (now (src .entry)) (length (now (tokens .entry))) (length (now (events .entry)))) (token-words (now (src .entry))) (now (tokens .entry)) ⌝ }

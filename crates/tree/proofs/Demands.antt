@@ -22,10 +22,11 @@ use Rattle.aadl.specs.Answers.{all-answered, left-in, token-words, event-words}
 use Rattle.aadl.specs.Demand.{answered-events, Read-as-derived}
 use Rattle.aadl.specs.Records.{Record, records-in, text-records, record-words, tree-answer, all-recorded, answered-records, Recorded}
 use Rattle.aadl.proofs.Settled.{five-numbers, Answered-whole, Settled}
+use Rattle.aadl.proofs.StringTokens.{Strings-closed}
 use Rattle.aadl.proofs.AnswerDerived.{Answered, answered-whole, told}
 use Rattle.aadl.proofs.TreeAnswers.{all-checks, six-numbers, tree-buffers, tree-answer-is-settled, tree-answered, tree-read-as-derived, records-told, tree-recorded}
 use Rattle.aadl.proofs.RecordsUpwards.{Upwards, record-at, insides, text-upwards, text-run}
-use Rattle.section.proofs.Demands.{Called, checks, buffers, every-answer-is-settled, counted-tokens, counted-events, every-word-is-told}
+use Rattle.section.proofs.Demands.{Called, checks, buffers, every-answer-is-settled, counted-tokens, counted-events, every-word-is-told, every-string-is-closed}
 
 -- What the contract of the tree call says of its answer a and the token, event and record words ts, es and rs, where the words old, last
 -- and rows were lent.
@@ -101,6 +102,9 @@ module _ {limits : Limits} {text old last rows : List ℕ} {a : TreeAnswer} {ts 
 
     pub every-tree-word-is-told : Allowed limits → Words-told text (a .answer .tokens) ts
     every-tree-word-is-told h = every-word-is-told section's h z
+
+    pub every-tree-string-is-closed : Allowed limits → Strings-closed text (a .answer .tokens) ts
+    every-tree-string-is-closed h = every-string-is-closed section's h z
 
     all-told : answered-records a rs ≡ text-records limits text
     all-told = records-told limits text (length old) (length last) (length rows) a (c .answer) z rows rs (c .record-words-left)

@@ -219,7 +219,7 @@ fn without_records(records: &mut [u32], a: Answer) -> TreeAnswer
     }
 }
 
-// The tree call within limits: what the section call does, and the records of the tree into lent words; or one of the refusals 1 to 7
+// The tree call within limits: what the section call does, and the records of the tree into lent words; or one of the refusals 1 to 8
 // with all words zeroed.
 pub fn property_tree_within(
     src: &[u8],
@@ -252,7 +252,7 @@ pub fn property_tree_within(
     }
 }
 
-// The tree call: what the section call does, and the records of the tree into lent words; or one of the refusals 1 to 7 with all words
+// The tree call: what the section call does, and the records of the tree into lent words; or one of the refusals 1 to 8 with all words
 // zeroed.
 pub fn property_tree(
     src: &[u8],

@@ -1,19 +1,21 @@
 -- The answer is that of the first check whose case holds (aadl's AnswerLaws); a refusal clears the words, and else they are filled. That
 -- each token which is a word has that word's kind follows from both (aadl's `tokens-told`). Assumes nothing.
-use Prim.Native.Nat.{ℕ, suc}
+use Prim.Native.Nat.{ℕ, suc, _≤_}
 use native.Mathlib.Omega.{arith}
 use mathlib.Core.Path.{_≡_, sym, ap, _∙_}
+use mathlib.Core.Bool.{false}
 use mathlib.Core.List.{List, []}
-use lib.ListN.{length, replicate}
+use lib.ListN.{length, take, replicate}
+use lib.Seq.{length-take-le}
 use Rattle.aadl.specs.declared.Answer.{Answer}
 use Rattle.aadl.specs.declared.Limits.{Limits}
 use Rattle.aadl.specs.Limits.{Allowed}
 use Rattle.aadl.specs.Tokens.{tokens}
 use Rattle.aadl.specs.WordKinds.{Words-told}
-use Rattle.aadl.specs.Answers.{refused, answered, tokens-answer, token-words, left-in}
-use Rattle.aadl.proofs.AnswerLaws.{too-long, not-utf8, no-word-left, text-passes, tokens-answer-is, left-by-refusal, left-answered}
+use Rattle.aadl.specs.Answers.{refused, answered, all-tokens, tokens-answer, token-words, left-in}
+use Rattle.aadl.proofs.AnswerLaws.{too-long, not-utf8, no-word-left, not-closed, text-passes, tokens-answer-is, left-by-refusal, left-answered}
 use Rattle.aadl.proofs.WordTokens.{tokens-told}
-use Rattle.lexer.proofs.FillLaws.{filled-over, filled-all, filled-place, filled-count, all-written}
+use Rattle.lexer.proofs.FillLaws.{filled-over, filled-all, filled-place, filled-count, all-written, first-written}
 use borrow.Author.Needs.{needs}
 use Rattle.lexer.proofs.tokenize_within.Statement.{statement}
 use Rattle.lexer.proofs.tokenize_within.Tie as tie
@@ -35,7 +37,7 @@ returns c =
     let xs = x .src .now in
     let old = x .tokens .now in
     let limits = x .limits in
-    let a = too-long limits xs (length old) [] (answered (length (tokens xs)) 0 0) ((c .before .before .before .before .if1) .taken) in
+    let a = too-long limits xs (length old) [] (all-tokens xs) ((c .before .before .before .before .if1) .taken) in
     let w = c .before .before .refuse in
     clauses limits xs old _ _ (start .pre) (w .ensures .0 ∙ sym (tokens-answer-is limits xs (length old) ∙ a))
     (w .ensures .1 ∙ zeros (w .result) 0 (limits .bytes) (token-words xs) old (w .ensures .0))
@@ -48,7 +50,7 @@ returns-2 c =
     let old = x .tokens .now in
     let limits = x .limits in
     let v = (c .before .before .before .before .before .valid-up-to) .ensures in
-    let a = not-utf8 limits xs (length old) [] (answered (length (tokens xs)) 0 0) ((c .before .before .before .before .before .before .if1) .left) (λ q. (c .before .before .before .before .if2) .taken (v ∙ q)) in
+    let a = not-utf8 limits xs (length old) [] (all-tokens xs) ((c .before .before .before .before .before .before .if1) .left) (λ q. (c .before .before .before .before .if2) .taken (v ∙ q)) in
     let w = c .before .before .refuse2 in
     clauses limits xs old _ _ (start .pre) (w .ensures .0 ∙ ap (refused 2) v ∙ sym (tokens-answer-is limits xs (length old) ∙ a))
     (w .ensures .1 ∙ zeros (w .result) 1 ((c .before .before .before .before .before .valid-up-to) .result) (token-words xs) old (w .ensures .0))
@@ -63,28 +65,68 @@ returns-3 c =
     let utf8 = sym ((c .before .before .before .before .before .before .before .before .before .before .valid-up-to) .ensures) ∙ (c .before .before .before .before .before .before .before .before .before .if2) .left in
     let q = (c .before .before .before .before .before .before .before .fill) .ensures .0 in
     let f = (c .before .before .before .before .before .before .before .fill) .result in
-    let a = no-word-left limits xs (length old) [] (answered (length (tokens xs)) 0 0) ((c .before .before .before .before .before .before .before .before .before .before .before .if1) .left) utf8 (filled-over xs (length old) f q ((c .before .before .before .before .if3) .taken)) in
+    let a = no-word-left limits xs (length old) [] (all-tokens xs) ((c .before .before .before .before .before .before .before .before .before .before .before .if1) .left) utf8 (filled-over xs (length old) f q ((c .before .before .before .before .if3) .taken)) in
     let w = c .before .before .refuse3 in
     clauses limits xs old _ _ (start .pre) (w .ensures .0 ∙ ap (refused 3) (filled-place xs (length old) f q) ∙ sym (tokens-answer-is limits xs (length old) ∙ a))
     (w .ensures .1 ∙ ap (λ (k : ℕ). replicate k 0) ((c .before .before .before .before .before .before .before .fill) .kept .1 .0) ∙ zeros (w .result) 2 (f .at) (token-words xs) old (w .ensures .0))
 
+-- where every token has a word: how many there are, and the words
+module _ (q : tie.After-fill) (e : q .fill .result .full ≡ false) where
+  abbrev text : List ℕ
+  text = q .before .before .before .before .before .before .before .before .args .src .now
+
+  abbrev lent-words : List ℕ
+  lent-words = q .before .before .before .before .before .before .before .before .args .tokens .now
+
+  all : length (tokens text) ≤ length lent-words
+  all = filled-all text (length lent-words) (q .fill .result) (q .fill .ensures .0) e
+
+  count : q .fill .result .count ≡ length (tokens text)
+  count = filled-count text (length lent-words) (q .fill .result) (q .fill .ensures .0) e
+
+count-fits : tie.Need-slice-reshare-prefix-unclosed-at
+count-fits c =
+    let q = c .before .before .before in
+    omega (arith, count q (c .if3 .left), all q (c .if3 .left), q .fill .kept .1 .0)
+
+unclosed-at-requires : tie.Need-unclosed-at-requires
+unclosed-at-requires c κs =
+    let q = c .before .before .before .before in
+    let start = q .before .before .before .before .before .before .before .before in (
+      omega (arith, start .pre, q .before .before .before .before .if1 .left),
+      ap (take (q .fill .result .count)) (q .fill .ensures .1) ∙ first-written (text q (c .before .if3 .left)) (start .args .tokens .now) (q .fill .result .count) (all q (c .before .if3 .left)) (count q (c .before .if3 .left)),
+    )
+
 returns-4 : tie.Need-returns-4
 returns-4 c =
-    let start = c .before .before .before .before .before .before .before .before .before .before .before in
-    let x = start .args in
-    let xs = x .src .now in
-    let old = x .tokens .now in
-    let limits = x .limits in
-    let utf8 = sym ((c .before .before .before .before .before .before .valid-up-to) .ensures) ∙ (c .before .before .before .before .before .if2) .left in
-    let q = (c .before .before .before .fill) .ensures .0 in
-    let f = (c .before .before .before .fill) .result in
-    let all = filled-all xs (length old) f q ((c .if3) .left) in
-    let a = text-passes limits xs (length old) [] (answered (length (tokens xs)) 0 0) ((c .before .before .before .before .before .before .before .if1) .left) utf8 all in
-    clauses limits xs old _ _ (start .pre) (ap (λ (n : ℕ). answered n 0 0) (filled-count xs (length old) f q ((c .if3) .left)) ∙ sym (tokens-answer-is limits xs (length old) ∙ a))
-    ((c .before .before .before .fill) .ensures .1 ∙ all-written xs old all ∙ sym (left-answered (f .count) 0 0 (token-words xs) old))
+    let q = c .before .before .before .before .before .before .before .before .before .before in
+    let some = c .before .before .before .before .before .before .before .if3 .left in
+    let start = q .before .before .before .before .before .before .before .before in
+    let xs = start .args .src .now in
+    let old = start .args .tokens .now in
+    let limits = start .args .limits in
+    let utf8 = sym (q .before .before .before .valid-up-to .ensures) ∙ q .before .before .if2 .left in
+    let u = c .before .before .before .before .before .unclosed-at in
+    let a = not-closed limits xs (length old) [] (all-tokens xs) (q .before .before .before .before .if1 .left) utf8 (all q some) (λ z. c .before .before .before .before .if4 .taken (u .ensures ∙ z)) in
+    let w = c .before .before .refuse4 in
+    clauses limits xs old _ _ (start .pre) (w .ensures .0 ∙ ap (refused 8) (u .ensures) ∙ sym (tokens-answer-is limits xs (length old) ∙ a))
+    (w .ensures .1 ∙ ap (λ (k : ℕ). replicate k 0) (q .fill .kept .1 .0) ∙ zeros (w .result) 7 (u .result) (token-words xs) old (w .ensures .0))
+
+returns-5 : tie.Need-returns-5
+returns-5 c =
+    let q = c .before .before .before .before .before .before in
+    let some = c .before .before .before .if3 .left in
+    let start = q .before .before .before .before .before .before .before .before in
+    let xs = start .args .src .now in
+    let old = start .args .tokens .now in
+    let limits = start .args .limits in
+    let utf8 = sym (q .before .before .before .valid-up-to .ensures) ∙ q .before .before .if2 .left in
+    let a = text-passes limits xs (length old) [] (all-tokens xs) (q .before .before .before .before .if1 .left) utf8 (all q some) (sym (c .before .unclosed-at .ensures) ∙ c .if4 .left) in
+    clauses limits xs old _ _ (start .pre) (ap (λ (n : ℕ). answered n 0 0) (count q some) ∙ sym (tokens-answer-is limits xs (length old) ∙ a))
+    (q .fill .ensures .1 ∙ all-written xs old (all q some) ∙ sym (left-answered (q .fill .result .count) 0 0 (token-words xs) old))
 
 pub tokenize-within-spec : {M : Type 1} → statement M
 tokenize-within-spec =
     tie.close
     (tie.spec (λ c κs. search needs) (λ c. search needs) returns (λ c κs. search needs) (λ c κs. search needs) (λ c. search needs) returns-2 (λ c κs. search needs) (λ c κs. search needs)
-    (λ c. search needs) returns-3 (λ c. search needs) returns-4)
+    (λ c. search needs) returns-3 count-fits (λ c. sym (length-take-le _ _ (count-fits (c .before)))) unclosed-at-requires (λ c κs. search needs) (λ c. search needs) returns-4 (λ c. search needs) returns-5)

@@ -1,0 +1,68 @@
+-- The strings of a text that passes check 8 (`strings-closed`): the text of each, read by itself, is one string and closed. By the law of locality,
+-- nothing being behind it. So of the words that a call left which has this check (`filled-closed`). Assumes nothing.
+use Prim.Native.Nat.{ℕ, _≤_, _<_}
+use mathlib.Core.Path.{_≡_, refl, sym, ap, _∙_}
+use mathlib.Core.Bool.{true, not}
+use mathlib.Core.List.{List, [], _∷_, _++_, append-nil}
+use lib.ListN.{length, getD, take, drop, take-append-drop}
+use lib.Seq.{length-take-le}
+use lib.Dec.{eqb, ltb}
+use borrow.Author.Tests.{eqb-true, not-false}
+use Rattle.aadl.specs.declared.Token.{Token}
+use Rattle.aadl.specs.declared.Answer.{Answer}
+use Rattle.aadl.specs.Limits.{Limits, Allowed}
+use Rattle.aadl.specs.Kinds.{STRING-LIT, #_}
+use Rattle.aadl.specs.Tokens.{token, token-of, tokens, unclosed, kind-in, from-token, token-text}
+use Rattle.aadl.specs.Symbols.{is-trivia}
+use Rattle.aadl.specs.Answers.{Check, text-checks, all-tokens, tokens-answer, left-in, token-words}
+use Rattle.aadl.proofs.Lists.{each-at}
+use Rattle.aadl.proofs.TokenBounds.{token-within}
+use Rattle.aadl.proofs.Unclosed.{all-closed}
+use Rattle.aadl.proofs.Separators.{nothing-separates}
+use Rattle.aadl.proofs.Locality.{token-again}
+use Rattle.aadl.proofs.TokenText.{token-at, filled-told}
+use Rattle.aadl.proofs.Checks.{case-of, fails-by}
+use Rattle.aadl.proofs.Settled.{Lent, lent, five-numbers, Answered-whole, tokens-answer-is-whole}
+
+-- some bytes that begin with a string, closed: its text is such a string too
+string-alone : (bs : List ℕ) → 1 ≤ length bs → token-of bs .kind ≡ # STRING-LIT → token-of bs .closed ≡ true →
+    let w = take (token-of bs .len) bs in token-of w ≡ token (# STRING-LIT) (length w)
+string-alone bs some kind closed =
+    let w = take (token-of bs .len) bs in
+    let r = drop (token-of bs .len) bs in
+    let joined : w ++ r ≡ bs = take-append-drop (token-of bs .len) bs in
+    let same : token-of (w ++ r) ≡ token-of bs = ap token-of joined in
+    let long : length w ≡ token-of bs .len = length-take-le (token-of bs .len) bs (token-within bs some .1) in
+    ap token-of (sym (append-nil w))
+    ∙ token-again w r [] (ap (λ (t : Token). t .len) same ∙ sym long) (ap (λ (t : Token). is-trivia (t .kind)) same ∙ ap is-trivia kind)
+    (λ e. ap (λ (t : Token). t .closed) same ∙ closed) nothing-separates
+    ∙ same ∙ (λ i. record { kind = kind i; len = sym long i; closed = closed i })
+
+-- Of words ts whose first n are the token words of a text: the text of each token that is a string, read by itself, is one string that is
+-- closed, and nothing behind it.
+abbrev pub Strings-closed : (text : List ℕ) (n : ℕ) (ts : List ℕ) → Type 0
+Strings-closed text n ts = (i : ℕ) → i < n → kind-in (getD ts i 0) ≡ # STRING-LIT → token-of (token-text text ts i) ≡ token (# STRING-LIT) (length (token-text text ts i))
+
+pub strings-closed : (text : List ℕ) → unclosed (tokens text) ≡ length text → (rest : List ℕ) → length text < 65536 →
+    Strings-closed text (length (tokens text)) (token-words text ++ rest)
+strings-closed text u rest s i h k =
+    let t = token-at text rest i s h in
+    let closed = each-at (λ (x : Token). x .closed ≡ true) (tokens text) i (token 0 0) h (all-closed text u) in
+    let alone = string-alone (from-token text (token-words text ++ rest) i) (t .some) (sym (t .kind) ∙ k) (sym (ap (λ (x : Token). x .closed) (t .token-is)) ∙ closed) in
+    rw (t .text-is) alone
+
+-- Of a call that answers by 01's five numbers and refuses nothing, whatever its checks, if 8 is among them.
+pub filled-closed : (limits : Limits) (text old ts : List ℕ) (cs : List Check) (all a : Answer) (buffers : List Lent) → Allowed limits →
+    case-of 1 cs ≡ ltb (limits .bytes) (length text) → case-of 8 cs ≡ not (eqb (unclosed (tokens text)) (length text)) → all .tokens ≡ length (tokens text) →
+    Answered-whole five-numbers cs all a (lent old (token-words text) ts ∷ buffers) → Strings-closed text (a .tokens) ts
+filled-closed limits text old ts cs all a buffers allowed one eight count x =
+    let same = eqb (unclosed (tokens text)) (length text) in
+    let closed = eqb-true (unclosed (tokens text)) (length text) (not-false same (sym eight ∙ fails-by 8 cs (x .none))) in
+    filled-told (Strings-closed text) limits text old ts cs all a buffers allowed one count x (strings-closed text closed)
+
+-- Of the tokens-only call, to which the words old were lent and which left the words ts.
+pub tokens-closed : (limits : Limits) (text old ts : List ℕ) (a : Answer) → Allowed limits → a ≡ tokens-answer limits text (length old) →
+    ts ≡ left-in a (token-words text) old → a .number ≡ 0 → Strings-closed text (a .tokens) ts
+tokens-closed limits text old ts a allowed e w z =
+    filled-closed limits text old ts (text-checks limits text (length old)) (all-tokens text) a [] allowed refl refl refl
+    (tokens-answer-is-whole limits text old ts a e w z)
