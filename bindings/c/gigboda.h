@@ -23,7 +23,7 @@ extern "C" {
 #endif
 
 #define GIGBODA_VERSION_MAJOR 0
-#define GIGBODA_VERSION_MINOR 4
+#define GIGBODA_VERSION_MINOR 5
 #define GIGBODA_VERSION_PATCH 0
 #define GIGBODA_QUOTED_NUMBERS(major, minor, patch) #major "." #minor "." #patch
 #define GIGBODA_QUOTED(major, minor, patch) GIGBODA_QUOTED_NUMBERS(major, minor, patch)
@@ -86,8 +86,9 @@ enum gigboda_refusal {
     GIGBODA_REFUSAL_NO_PROPERTIES = 4, /* the first token but trivia is not `properties`; its start, or the text's length */
     GIGBODA_REFUSAL_NO_EVENT_WORD = 5, /* no event word left; start of the next token not taken, or the text's length */
     GIGBODA_REFUSAL_TOO_DEEP = 6,      /* a 65th open `(`, `[`, `not` or sign; its start */
-    GIGBODA_REFUSAL_NO_RECORD = 7      /* more nodes than lent records; start of the first token of the first without one, or of the token
+    GIGBODA_REFUSAL_NO_RECORD = 7,     /* more nodes than lent records; start of the first token of the first without one, or of the token
                                         * that comes next if it has none, or the text's length */
+    GIGBODA_REFUSAL_UNCLOSED_STRING = 8 /* a string that is not closed; its opening quote */
 };
 
 /* A refusal's number in words, those of docs/REFUSALS.md. */
@@ -102,6 +103,7 @@ static inline const char *gigboda_refusal_text(size_t number)
     case GIGBODA_REFUSAL_NO_EVENT_WORD: return "more events than the tool has room for";
     case GIGBODA_REFUSAL_TOO_DEEP: return "nested more than 64 deep";
     case GIGBODA_REFUSAL_NO_RECORD: return "more nodes than the tool has room for";
+    case GIGBODA_REFUSAL_UNCLOSED_STRING: return "a string is not closed";
     default: return "(no refusal)";
     }
 }
@@ -139,7 +141,7 @@ static inline struct gigboda_answer gigboda_answer_of(const size_t *numbers)
 }
 
 /* The section call. Writes the text's tokens into the first token words and the events of its property section into the first event
- * words; the words behind them stay as they were. A refusal (1 to 6) leaves every lent word 0. */
+ * words; the words behind them stay as they were. A refusal (1 to 6, or 8) leaves every lent word 0. */
 static inline struct gigboda_answer gigboda_read_section(const char *text, size_t text_len, uint32_t *tokens, size_t tokens_len,
                                                          uint32_t *events, size_t events_len)
 {
@@ -153,7 +155,7 @@ static inline struct gigboda_answer gigboda_read_section(const char *text, size_
 
 /* The tree call: what the section call does, and a record for each node of the tree into the first record words, four words each (see The
  * tree in records, below). records_len counts words: a fourth of it are the lent records. The words behind the records stay as they were.
- * A refusal (1 to 7) leaves every lent word 0. */
+ * A refusal (1 to 8) leaves every lent word 0. */
 static inline struct gigboda_tree_answer gigboda_read_tree(const char *text, size_t text_len, uint32_t *tokens, size_t tokens_len,
                                                            uint32_t *events, size_t events_len, uint32_t *records, size_t records_len)
 {
@@ -168,7 +170,7 @@ static inline struct gigboda_tree_answer gigboda_read_tree(const char *text, siz
     return tree;
 }
 
-/* The tokens-only call: the same without a section. It has the refusals 1 to 3, and answers 0 taken and 0 events. */
+/* The tokens-only call: the same without a section. It has the refusals 1 to 3 and 8, and answers 0 taken and 0 events. */
 static inline struct gigboda_answer gigboda_read_tokens(const char *text, size_t text_len, uint32_t *tokens, size_t tokens_len)
 {
     size_t numbers[5] = {0, 0, 0, 0, 0};

@@ -25,7 +25,7 @@ static void print_tables(void)
     printf("version %s\n", GIGBODA_VERSION);
     for (n = 0; n < GIGBODA_KIND_COUNT; n++)
         printf("kind %u %s\n", n, gigboda_kind_name(n));
-    for (n = GIGBODA_REFUSAL_TOO_LONG; n <= GIGBODA_REFUSAL_NO_RECORD; n++)
+    for (n = GIGBODA_REFUSAL_TOO_LONG; n <= GIGBODA_REFUSAL_UNCLOSED_STRING; n++)
         printf("refusal %u %s\n", n, gigboda_refusal_text(n));
     for (n = GIGBODA_MESSAGE_NO_ARROW; n <= GIGBODA_MESSAGE_VIRTUAL_ALONE; n++)
         printf("message %u %s\n", n, gigboda_message_text(n));

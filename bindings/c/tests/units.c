@@ -102,7 +102,8 @@ static void refusals_have_words(void)
     CHECK_SAME(gigboda_refusal_text(GIGBODA_REFUSAL_NONE), "not refused");
     CHECK_SAME(gigboda_refusal_text(2), "the text is not UTF-8");
     CHECK_SAME(gigboda_refusal_text(GIGBODA_REFUSAL_NO_RECORD), "more nodes than the tool has room for");
-    CHECK_SAME(gigboda_refusal_text(8), "(no refusal)");
+    CHECK_SAME(gigboda_refusal_text(GIGBODA_REFUSAL_UNCLOSED_STRING), "a string is not closed");
+    CHECK_SAME(gigboda_refusal_text(9), "(no refusal)");
 }
 
 static void messages_have_words(void)
@@ -138,6 +139,18 @@ static void a_refusal_leaves_zeros(void)
     tokens[0] = tokens[8] = events[0] = events[8] = 7;
     CHECK_SAME(numbers(gigboda_read_section("properties \377", 12, tokens, 8, events, 8)), "2 11 0 0 0");
     CHECK(tokens[0] == 0 && tokens[8] == 7 && events[0] == 0 && events[8] == 7);
+}
+
+/* At its opening quote, after 3 and before 4, by all three calls. */
+static void a_string_that_is_not_closed_is_refused_8(void)
+{
+    tokens[0] = tokens[8] = events[0] = events[8] = 7;
+    CHECK_SAME(numbers(gigboda_read_section("properties A => \"a\"\"", 20, tokens, 8, events, 8)), "8 16 0 0 0");
+    CHECK(tokens[0] == 0 && tokens[8] == 7 && events[0] == 0 && events[8] == 7);
+    CHECK_SAME(numbers(gigboda_read_section("properties A => \"a", 18, tokens, 6, events, 8)), "3 16 0 0 0");
+    CHECK_SAME(numbers(gigboda_read_tokens("a \"", 3, tokens, 8)), "8 2 0 0 0");
+    CHECK_SAME(numbers(gigboda_read_tokens("a \"\"", 4, tokens, 8)), "0 0 3 0 0");
+    CHECK_SAME(tree_numbers(gigboda_read_tree("none; \"", 7, tokens, 8, events, 8, records, 2)), "8 6 0 0 0, 0");
 }
 
 static void the_tree_call_answers(void)
@@ -639,6 +652,7 @@ static const struct {
     TEST(messages_have_words),
     TEST(the_calls_answer),
     TEST(a_refusal_leaves_zeros),
+    TEST(a_string_that_is_not_closed_is_refused_8),
     TEST(the_tree_call_answers),
     TEST(too_few_records_are_refused_7),
     TEST(what_is_refused_1_to_6_is_not_refused_7),

@@ -19,13 +19,15 @@ pub enum Refusal {
     TooDeep = 6,
     /// More nodes than lent records; the place is the start of the token that the first without one names, or the text's length.
     NoRecord = 7,
+    /// A string that is not closed; the place is its opening quote.
+    UnclosedString = 8,
 }
 
 impl Refusal {
     /// All refusals, by number.
-    pub const ALL: [Refusal; 7] = {
+    pub const ALL: [Refusal; 8] = {
         use Refusal::*;
-        [TooLong, NotUtf8, NoTokenWord, NoProperties, NoEventWord, TooDeep, NoRecord]
+        [TooLong, NotUtf8, NoTokenWord, NoProperties, NoEventWord, TooDeep, NoRecord, UnclosedString]
     };
 
     /// The refusal with a number, if there is one.
@@ -49,6 +51,7 @@ impl fmt::Display for Refusal {
             Refusal::NoEventWord => "more events than the tool has room for",
             Refusal::TooDeep => "nested more than 64 deep",
             Refusal::NoRecord => "more nodes than the tool has room for",
+            Refusal::UnclosedString => "a string is not closed",
         })
     }
 }

@@ -96,6 +96,9 @@ fn what_is_refused() {
     assert_eq!(call(b"", 0, 0), at(Refusal::NoProperties, 0));
     assert_eq!(call(b"properties none;", 4, 4), at(Refusal::NoEventWord, 16));
     assert_eq!(call(deep.as_bytes(), 100, 300), at(Refusal::TooDeep, 80));
+    assert_eq!(call(b"properties A => \"a\"\";", 7, 99), at(Refusal::UnclosedString, 16));
+    assert_eq!(call(b"properties A => \"a\"\";", 6, 99), at(Refusal::NoTokenWord, 16));
+    assert_eq!(call(b"A => \"1", 9, 0), at(Refusal::UnclosedString, 5));
 }
 
 #[test]
@@ -115,6 +118,7 @@ fn too_few_records_are_refused() {
     assert_eq!(call(text, 30, 30, 23), at(Refusal::NoRecord, text.len()));
     assert_eq!(call(text, 30, 3, 3), at(Refusal::NoEventWord, 12));
     assert_eq!(call(b"none;", 2, 0, 0), at(Refusal::NoProperties, 0));
+    assert_eq!(call(b"none; \"", 9, 0, 0), at(Refusal::UnclosedString, 6));
 }
 
 /// The last two messages stand at one place, with an empty node between them.
