@@ -78,6 +78,15 @@ refused,2,18 properties A => 1;\377
 refused,2,14 properties -- \303
 refused,2,17 properties A => "\342\202
 refused,2,0 \377\376p\000
+refused,8,0 "
+refused,8,5 A => "1
+refused,8,16 properties A => "a;\n
+refused,8,16 properties A => "a"";
+refused,8,25 properties A => ("a"", "b");
+refused,2,18 properties A => "a\303
+14 properties A => "a""";
+18 properties A => "a", "";
+14 properties A => ""; -- "
 4 properties
 4 properties\n\n-- the rest\n\n
 6 PROPERTIES none;

@@ -72,8 +72,8 @@ pub fn sample(count: usize, sections: bool) -> Vec<Record> {
     records
 }
 
-/// Texts whose trees have chains of forward parents, empty nodes or errors; and one that is no UTF-8.
-const TREES: [&[u8]; 9] = [
+/// Texts whose trees have chains of forward parents, empty nodes or errors; one that is no UTF-8, and two with a string that is not closed.
+const TREES: [&[u8]; 11] = [
     b"properties A => 1 + 2 * 3 - 4 + 5;",
     b"properties A => 1 * 2 * 3 .. 4 + 5 delta 6;",
     b"properties A => (1, (), [b => 2; c => ;]) in modes ();",
@@ -83,6 +83,8 @@ const TREES: [&[u8]; 9] = [
     b"properties A => 1 + ;",
     b"properties A => [",
     b"properties A => \xC3;",
+    b"properties A => \"a;",
+    b"properties A => (\"a\"\", \"b\");",
 ];
 
 /// Records of the extended form: of each text the section call and the tokens-only call; and the tree call with words in plenty, with no record word and with

@@ -18,6 +18,9 @@ const BATCH_BYTES: usize = 2_000_000;
 /// A long text once in so many.
 const LONG_ONCE_IN: usize = 4_000;
 
+/// Of the texts at random, one in so many gets a quote more or fewer.
+const QUOTE_ONCE_IN: usize = 16;
+
 /// Of the answered records, one in so many is asked again with exactly enough words, and with too few.
 const AGAIN_ONCE_IN: usize = 8;
 
@@ -38,7 +41,7 @@ pub struct Source {
     asked: Vec<Record>,
 }
 
-const EXTRA: [&str; 3] = ["long texts", "many events", "word counts"];
+const EXTRA: [&str; 4] = ["long texts", "many events", "word counts", "unclosed strings"];
 
 impl Source {
     pub fn new(seed: u64, call: Call) -> Source {
@@ -49,6 +52,11 @@ impl Source {
 
     fn extra(&self, which: usize) -> usize {
         self.families.len() + which
+    }
+
+    /// The family of the texts that are refused for a string that is not closed.
+    pub fn unclosed(&self) -> usize {
+        self.extra(3)
     }
 
     /// A family that still has texts: half the time one that gives each of its texts once, by how many it has left.
@@ -77,7 +85,10 @@ impl Source {
         let family = self.family();
         let text = match &mut self.families[family].maker {
             Maker::Every(e) => e.next().expect("some left"),
-            Maker::Random(_, make) => make(&mut self.rng),
+            Maker::Random(_, make) => {
+                let text = make(&mut self.rng);
+                if self.rng.once_in(QUOTE_ONCE_IN) { lexer::with_quote(&mut self.rng, text) } else { text }
+            }
         };
         (family, text)
     }
@@ -141,6 +152,17 @@ impl Source {
                 }
                 self.asked.push(ask(tokens, fewer(events) as u32, Form::Tree(exact as u32)));
                 self.asked.push(ask(fewer(tokens), events as u32, Form::Tree(exact as u32)));
+            }
+        }
+    }
+
+    /// The same text with fewer token words, so that 3 comes before 8, or 8 is behind the last word.
+    pub fn again_with_fewer(&mut self, record: &Record) {
+        let family = self.extra(2);
+        if record.family != family && self.rng.once_in(AGAIN_ONCE_IN) {
+            for _ in 0..2 {
+                let tokens = self.rng.below(record.text.len().min(16) + 1) as u32;
+                self.asked.push(Record { family, tokens, ..record.clone() });
             }
         }
     }

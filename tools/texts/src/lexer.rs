@@ -198,3 +198,18 @@ pub fn long(rng: &mut Rng) -> Vec<u8> {
     }
     text
 }
+
+/// A text with a quote too many or too few: one that is there left out or doubled, or one put in.
+pub fn with_quote(rng: &mut Rng, mut text: Vec<u8>) -> Vec<u8> {
+    let quotes: Vec<usize> = (0..text.len()).filter(|i| text[*i] == b'"').collect();
+    if quotes.is_empty() || rng.once_in(3) {
+        text.insert(rng.below(text.len() + 1), b'"');
+        return text;
+    }
+    let at = *rng.pick(&quotes);
+    match rng.below(2) {
+        0 => drop(text.remove(at)),
+        _ => text.insert(at, b'"'),
+    }
+    text
+}
