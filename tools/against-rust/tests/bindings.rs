@@ -6,7 +6,7 @@ use spar::syntax_kind::SyntaxKind;
 use std::ops::Range;
 use texts::families::{self, Family, Maker};
 use texts::random::Rng;
-use texts::strings::is_unclosed;
+use texts::strings;
 
 /// Texts of each family that makes them at random, and of each that gives every one of its texts.
 const OF_EACH: usize = 3_000;
@@ -154,9 +154,8 @@ fn same_event(ours: Event, theirs: &Theirs) -> bool {
 
 /// The refusal of a text whose last token is a string that is not closed: what the Rust reads there is no longer read.
 fn unclosed(text: &str, tokens: &[(SyntaxKind, usize)]) -> Option<Refused> {
-    let (kind, len) = tokens.last()?;
-    let place = text.len() - len;
-    (*kind == SyntaxKind::STRING_LIT && is_unclosed(&text[place..])).then_some(Refused { refusal: Refusal::UnclosedString, place })
+    let place = strings::unclosed(text, tokens, SyntaxKind::STRING_LIT)?;
+    Some(Refused { refusal: Refusal::UnclosedString, place })
 }
 
 /// Compares the tokens of a text with the Rust's. False for a text that is refused.

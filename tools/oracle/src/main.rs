@@ -10,7 +10,7 @@ use spar::parser::Parser;
 use spar::syntax_kind::SyntaxKind;
 use std::collections::HashMap;
 use std::io::{self, BufReader, BufWriter, Write};
-use texts::strings::is_unclosed;
+use texts::strings::unclosed;
 use tree::{nodes, Node};
 
 /// 01's limits.
@@ -107,13 +107,6 @@ fn limits(events: &[Event], lent: usize, starts: &[usize]) -> Result<usize, Refu
     Ok(taken)
 }
 
-/// Where a string that is not closed starts; only the last token can be one.
-fn unclosed(text: &str, tokens: &[Token]) -> Option<usize> {
-    let (kind, len) = tokens.last()?;
-    let place = text.len() - len;
-    (*kind == SyntaxKind::STRING_LIT && is_unclosed(&text[place..])).then_some(place)
-}
-
 /// The tokens of a text, or one of the refusals 1 to 3 and 8.
 fn tokens(record: &Record) -> Result<(&str, Vec<Token>), Refusal> {
     if record.text.len() > MOST_BYTES {
@@ -125,7 +118,7 @@ fn tokens(record: &Record) -> Result<(&str, Vec<Token>), Refusal> {
         let place = tokens[..record.tokens].iter().map(|t| t.1).sum();
         return Err(Refusal(3, place));
     }
-    if let Some(place) = unclosed(text, &tokens) {
+    if let Some(place) = unclosed(text, &tokens, SyntaxKind::STRING_LIT) {
         return Err(Refusal(8, place));
     }
     Ok((text, tokens))
