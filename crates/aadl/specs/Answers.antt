@@ -53,7 +53,8 @@ module _ {A : Type 0} (refusing : (number place : ℕ) → A) where
   checked [] a = a
   checked (check n case place ∷ cs) a = cond case (refusing n place) (checked cs a)
 
--- "The tokens-only call lends no event words, has 1 to 3 and answers taken and events 0"; it has 8 "too".
+-- "The tokens-only call lends no event words, has 1 to 3 and answers taken and events 0"; 02 gives it 8: "both public calls, .. the
+-- tokens-only one too". What it counts where nothing is refused, and its answer.
 abbrev pub all-tokens : (text : List ℕ) → Answer
 all-tokens text = answered (length (tokens text)) 0 0
 
