@@ -14,11 +14,12 @@ use Rattle.aadl.specs.Limits.{Limits, base}
 use Rattle.aadl.specs.Kinds.{#_, ERROR, WHITESPACE, SEMICOLON, DOT-DOT, L-PAREN, R-PAREN, FAT-ARROW, PLUS, MINUS, STAR, INTEGER-LIT, REAL-LIT, STRING-LIT, IDENT, MODES-KW, PROPERTIES-KW, APPLIES-KW, TO-KW, NOT-KW, IN-KW, OUT-KW, EVENT-KW, DATA-KW, PORT-KW, CLASSIFIER-KW}
 use Rattle.aadl.specs.Kinds.{DIRECTION, PROTOTYPE-BINDING, PROTOTYPE-BINDING-LIST, CLASSIFIER-REF, CLASSIFIER-VALUE, PROPERTY-SECTION, PROPERTY-ASSOCIATION, PROPERTY-REF, PROPERTY-EXPRESSION, BOOLEAN-VALUE, INTEGER-VALUE, RANGE-VALUE, BINARY-EXPR, APPLIES-TO, CONTAINMENT-PATH}
 use Rattle.aadl.specs.Words.{bytes}
-use Rattle.aadl.specs.Tokens.{token, string-of, string-lit, tokens}
+use Rattle.aadl.specs.Tokens.{token, string-of, string-lit, span, number, number-of, tokens, token-word}
+use Rattle.aadl.specs.NumberParts.{no-number, number-parts}
 use Rattle.aadl.specs.WordKinds.{Mixed, is-word}
 use Rattle.aadl.specs.Symbols.{symbols}
 use Rattle.aadl.specs.Reading.{events}
-use Rattle.aadl.specs.Answers.{tokens-answer, section-answer, answered, refused, left-in}
+use Rattle.aadl.specs.Answers.{tokens-answer, section-answer, answered, refused, left-in, token-words}
 use Rattle.aadl.specs.Listing.{column, listing}
 use Rattle.aadl.proofs.Computing.{definitions}
 use Rattle.aadl.proofs.Asides.{is-message}
@@ -70,6 +71,61 @@ pub printed-listing :
     ≡ bytes "event,class,kind,last,line,column\n0,S,169,0,1,1\n1,T,60,1,1,1\n2,S,170,0,2,3\n3,S,171,0,2,3\n4,T,33,1,2,3\n5,F,0,0,2,5\n6,T,18,1,2,5\n7,S,183,0,2,8\n8,T,30,1,2,8\n9,T,33,1,2,10\n10,F,0,0,2,12\n11,T,5,1,2,12\n12,F,0,0,3,1\n13,F,0,0,3,1\n"
 unfolding definitions
 printed-listing = refl
+
+-- NUMBERS --------------------------------------------------------------------------------------------------------------
+
+-- With a base: closed, with an exponent, with a dot, no inner digits, nothing behind the `#`, not closed; `E` is a digit there. Without: grouped, a
+-- fraction, none behind its dot, an exponent without digits, none behind `_`, C-style, two zeros. Then by token number: a number, a word, a
+-- blank, no such token; and words that say another length or another kind than the text.
+pub record Numbers-read : Type 0 where
+  pub closed : number-of (bytes "16#1F#") ≡ number (# INTEGER-LIT) 6 (span 0 2) (span 3 5) true false
+  pub closed-exponent : number-of (bytes "2#1_0#E3") ≡ number (# REAL-LIT) 8 (span 0 1) (span 2 5) true true
+  pub closed-dot : number-of (bytes "16#F.E#e-2") ≡ number (# REAL-LIT) 10 (span 0 2) (span 3 6) true true
+  pub grouped : number-of (bytes "1_000") ≡ number (# INTEGER-LIT) 5 (span 0 0) (span 0 5) false false
+  pub fraction : number-of (bytes "3.14e+5") ≡ number (# REAL-LIT) 7 (span 0 0) (span 0 4) false true
+  pub dot-last : number-of (bytes "1.") ≡ number (# REAL-LIT) 2 (span 0 0) (span 0 2) false false
+  pub exponent-last : number-of (bytes "1e") ≡ number (# REAL-LIT) 2 (span 0 0) (span 0 1) false true
+  pub hash-last : number-of (bytes "16#") ≡ number (# INTEGER-LIT) 3 (span 0 2) (span 3 3) false false
+  pub two-hashes : number-of (bytes "16##") ≡ number (# INTEGER-LIT) 4 (span 0 2) (span 3 3) true false
+  pub c-style : number-of (bytes "0x1F") ≡ number (# ERROR) 4 (span 0 0) (span 0 0) false false
+  pub two-zeros : number-of (bytes "00") ≡ number (# INTEGER-LIT) 2 (span 0 0) (span 0 2) false false
+  pub not-closed : number-of (bytes "0#1") ≡ number (# INTEGER-LIT) 3 (span 0 1) (span 2 3) false false
+  pub no-exponent : number-of (bytes "1_e") ≡ number (# INTEGER-LIT) 2 (span 0 0) (span 0 2) false false
+  pub digit-e : number-of (bytes "16#1E5") ≡ number (# INTEGER-LIT) 6 (span 0 2) (span 3 6) false false
+  pub told : number-parts (bytes "A 2#1#") (token-words (bytes "A 2#1#")) 2 ≡ number (# INTEGER-LIT) 4 (span 0 1) (span 2 3) true false
+  pub word : number-parts (bytes "A 2#1#") (token-words (bytes "A 2#1#")) 0 ≡ no-number
+  pub blank : number-parts (bytes "A 2#1#") (token-words (bytes "A 2#1#")) 1 ≡ no-number
+  pub no-token : number-parts (bytes "A 2#1#") (token-words (bytes "A 2#1#")) 3 ≡ no-number
+  pub other-length : number-parts (bytes "12") (token-word (token (# INTEGER-LIT) 1) ∷ []) 0 ≡ no-number
+  pub other-kind : number-parts (bytes "12") (token-word (token (# REAL-LIT) 2) ∷ []) 0 ≡ no-number
+  pub no-digit : number-parts (bytes "_1") (token-word (token (# INTEGER-LIT) 2) ∷ []) 0 ≡ no-number
+
+pub numbers-read : Numbers-read
+unfolding definitions
+numbers-read =
+    record {
+      closed = refl;
+      closed-exponent = refl;
+      closed-dot = refl;
+      grouped = refl;
+      fraction = refl;
+      dot-last = refl;
+      exponent-last = refl;
+      hash-last = refl;
+      two-hashes = refl;
+      c-style = refl;
+      two-zeros = refl;
+      not-closed = refl;
+      no-exponent = refl;
+      digit-e = refl;
+      told = refl;
+      word = refl;
+      blank = refl;
+      no-token = refl;
+      other-length = refl;
+      other-kind = refl;
+      no-digit = refl;
+    }
 
 -- STRINGS --------------------------------------------------------------------------------------------------------------
 

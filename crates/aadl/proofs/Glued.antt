@@ -32,7 +32,7 @@ first-mark : (k : ℕ) (m : String) (ms : List String) (bs : List ℕ) → 1 ≤
 first-mark k m ms bs =
     let shorter = ltb (longest-mark (suc k) ms bs .len) (length (bytes m)) in
     cond-has (λ (t : Token). 1 ≤ t .len → t .kind ≡ k → (stand (bytes m) bs ≡ true) × (t .len ≡ length (bytes m))) (stand (bytes m) bs && shorter) _ _
-    (λ e h f. (and-l (stand (bytes m) bs) shorter e, refl)) (λ e h f. absurd (omega (arith, longest-mark-between (suc k) ms bs .0 h)))
+    (λ e h f. (and-l (stand (bytes m) bs) shorter e, refl)) (λ e h f. absurd (omega (arith, longest-mark-between (suc k) ms bs (suc-le-suc zero-le) .0 h)))
 
 stand-first : (c : ℕ) (bs : List ℕ) → stand (c ∷ []) bs ≡ true → peek bs 0 ≡ c
 stand-first c [] e = never e
@@ -43,7 +43,7 @@ pub semicolon-alone : (bs : List ℕ) → token-of bs .kind ≡ # SEMICOLON → 
 unfolding word-of mark-of marks
 semicolon-alone bs =
     token-cases P bs (λ e h. absurd (omega arith)) (λ e h. absurd (omega arith)) (λ e h. absurd (omega arith))
-    (λ e h. absurd (number-kind (λ (k : ℕ). k ≡ # SEMICOLON → ⊥) (λ l. omega arith) (λ l. omega arith) (λ l. omega arith) bs h))
+    (λ e h. absurd (number-kind (λ (k : ℕ). k ≡ # SEMICOLON → ⊥) bs (λ z l. omega arith) (λ l. omega arith) (λ l. omega arith) h))
     (λ e h. absurd (omega (arith, word-kind (take (run is-ident-continue bs) bs) .0)))
     (cond-has P (eqb (longest-mark 5 marks bs .len) 0) _ _ (λ e h. absurd (omega arith))
     (λ e h. let r = first-mark 5 ";" (drop 1 marks) bs (omega (arith, eqb-false (longest-mark 5 marks bs .len) 0 e)) h in (stand-first 59 bs (r .0), r .1)))

@@ -40,3 +40,5 @@ pub mod Boundaries
 pub mod Glued
 pub mod Locality
 pub mod StringTokens
+pub mod NumberLaws
+pub mod NumberTokens

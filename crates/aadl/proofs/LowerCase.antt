@@ -27,7 +27,7 @@ pub word-starts : (bs : List ℕ) → # IDENT ≤ token-of bs .kind → is-ident
 word-starts bs =
     token-cases (λ (t : Token). # IDENT ≤ t .kind → is-ident-start (peek bs 0) ≡ true) bs (λ e h. absurd (omega arith)) (λ e h. absurd (omega arith))
     (λ e h. absurd (omega arith))
-    (λ e h. absurd (number-kind (λ (k : ℕ). # IDENT ≤ k → ⊥) (λ l. omega arith) (λ l. omega arith) (λ l. omega arith) bs h))
+    (λ e h. absurd (number-kind (λ (k : ℕ). # IDENT ≤ k → ⊥) bs (λ z l. omega arith) (λ l. omega arith) (λ l. omega arith) h))
     (λ e h. e) (λ h. absurd (omega (arith, mark-kind bs)))
 
 pub token-of-word : (bs : List ℕ) → is-ident-start (peek bs 0) ≡ true → token-of bs ≡ word-of bs

@@ -13,7 +13,8 @@ use borrow.Author.Tests.{eqb-true}
 use Rattle.predictive.proofs.Tests.{and-false-l, and-false-r}
 use Rattle.aadl.specs.Kinds.{ERROR, INTEGER-LIT, #_}
 use Rattle.aadl.specs.Bytes.{peek, run, run-end, is-digit, is-ident-continue, is-exponent, is-grouped, is-based}
-use Rattle.aadl.specs.Tokens.{Number, number, exponent-end, radix-digit, is-c-style, based, real, number-from, number-of}
+use Rattle.aadl.specs.declared.Number.{Number}
+use Rattle.aadl.specs.Tokens.{exponent-end, radix-digit, is-c-style, c-style, based, real, integer, number-from, number-of}
 use Rattle.aadl.proofs.Bools.{false-unless, cond-first, cond-same}
 use Rattle.aadl.proofs.RunLaws.{run-end-from, run-stop}
 use Rattle.aadl.proofs.TokenBounds.{exponent-end-upto, hash-upto, based-upto, decimals-upto, c-style-long, number-from-upto}
@@ -85,12 +86,12 @@ module _ (a : ℕ) (u x y : List ℕ) (m : Meek x y) where
       number-from (a ∷ (u ++ y)) d ≡ number-from (a ∷ (u ++ x)) d
   unfolding number-from
   number-from-same d h p =
-      cond-same Q (is-c-style bs d) (is-c-style cs d) c-style _ _ _ _
-      (λ e k. ap (λ (n : ℕ). number (# ERROR) n 0 0 0 false false) (run-same is-ident-continue v x y k (m .word)))
+      cond-same Q (is-c-style bs d) (is-c-style cs d) c-style-same _ _ _ _
+      (λ e k. ap c-style (run-same is-ident-continue v x y k (m .word)))
       (λ e k. cond-same Q (eqb (peek bs d) 35) (eqb (peek cs d) 35) (hashes k) _ _ _ _ (λ f l. based-same v x y m (d + 1) l)
       (λ f l. cond-same Q (dotted bs d) (dotted cs d) (dots l) _ _ _ _ (λ g n. decimals-same v x y m (d + 1) n)
       (λ g n. cond-same Q (is-exponent (peek bs d)) (is-exponent (peek cs d)) (exponents n) _ _ _ _ (λ r q. real-same v x y m d q)
-      (λ r q. ap (λ (i : ℕ). number (# INTEGER-LIT) i 0 0 i false false) (run-end-same is-grouped v x y d q (m .grouped))) n) l) k) h
+      (λ r q. ap integer (run-end-same is-grouped v x y d q (m .grouped))) n) l) k) h
     where
       v : List ℕ
       v = a ∷ u
@@ -123,13 +124,13 @@ module _ (a : ℕ) (u x y : List ℕ) (m : Meek x y) where
           let f : (zero-first && radix-digit c (peek x 0)) ≡ false = ap (λ (b : ℕ). zero-first && radix-digit c b) (sym (peek-seam v x (d + 1) e)) ∙ n in
           and-less zero-first (radix-digit c (peek x 0)) (radix-digit c (peek y 0)) (m .radix c) f ∙ sym f
 
-      c-style : is-c-style cs d ≡ is-c-style bs d
-      c-style =
+      c-style-same : is-c-style cs d ≡ is-c-style bs d
+      c-style-same =
           pair-same v x y (λ (i j : ℕ). zero-first && radix-digit i j) d l
           (λ b. and-false-r zero-first (radix-digit (peek y 0) b) (meek-marker m b)) (λ t. omega (arith, c-style-short t)) c-style-seam
 
       bare : Number
-      bare = cond (is-exponent c) (real bs d) (number (# INTEGER-LIT) (run-end is-grouped bs d) 0 0 (run-end is-grouped bs d) false false)
+      bare = cond (is-exponent c) (real bs d) (integer (run-end is-grouped bs d))
 
       hashes : Q (cond (eqb c 35) (based bs (d + 1)) (cond (dotted bs d) (real bs (run-end is-digit bs (d + 1))) bare)) → eqb (peek cs d) 35 ≡ eqb c 35
       hashes k =

@@ -16,7 +16,7 @@ use Rattle.aadl.specs.declared.Token.{Token}
 use Rattle.aadl.specs.declared.Quoted.{Quoted}
 use Rattle.aadl.specs.Kinds.{WHITESPACE, COMMENT, #_}
 use Rattle.aadl.specs.Bytes.{peek, run, is-whitespace, is-digit, is-ident-start, is-ident-continue, not-lf}
-use Rattle.aadl.specs.Tokens.{token, more-quoted, quoted, string-of, string-lit, Number, word-of, token-of}
+use Rattle.aadl.specs.Tokens.{token, more-quoted, quoted, string-of, string-lit, number-lit, word-of, token-of}
 use Rattle.aadl.proofs.Bools.{cond-has, false-unless, cond-first, cond-same}
 use Rattle.aadl.proofs.TokenBounds.{quoted-whole}
 use Rattle.aadl.proofs.SameRuns.{Meek, meek-none, run-same}
@@ -108,7 +108,7 @@ token-of-same a u x y m q =
     (λ f l. cond-same Q (eqb a 34) (eqb a 34) refl _ _ _ _
     (λ g n. ap string-lit (string-same a u x y (n .ends) (n .closed) (meek-none m 34 refl)))
     (λ g n. cond-same Q (is-digit a) (is-digit a) refl _ _ _ _
-    (λ r o. ap (λ (s : Number). token (s .kind) (s .len)) (number-same a u x y m (o .ends) (o .parted)))
+    (λ r o. ap number-lit (number-same a u x y m (o .ends) (o .parted)))
     (λ r o. cond-same Q (is-ident-start a) (is-ident-start a) refl _ _ _ _
     (λ w v. word-same (a ∷ u) x y m (v .ends)) (λ w v. mark-same a u x y m (v .ends)) o) n) l) k) q
   where

@@ -14,11 +14,12 @@ use borrow.Author.Tests.{eqb-true, eqb-false}
 use Rattle.predictive.specs.Grammar.{has, stand}
 use Rattle.aadl.specs.declared.Token.{Token}
 use Rattle.aadl.specs.declared.Quoted.{Quoted}
+use Rattle.aadl.specs.declared.Number.{Number}
 use Rattle.aadl.specs.Kinds.{ERROR, WHITESPACE, COMMENT, INTEGER-LIT, REAL-LIT, STRING-LIT, IDENT, #_}
 use Rattle.aadl.specs.Words.{bytes, words, table, numbered, find, same, kind-of-word}
 use Rattle.aadl.specs.Bytes.{peek, run, run-end}
 use Rattle.aadl.specs.Bytes.{is-whitespace, is-digit, is-ident-start, is-ident-continue, is-exponent, is-sign, is-grouped, is-based, not-lf}
-use Rattle.aadl.specs.Tokens.{quoted, string-of, Number, number, exponent-end, radix-digit, is-c-style, based, real, number-from, number-of}
+use Rattle.aadl.specs.Tokens.{quoted, string-of, exponent-end, radix-digit, is-c-style, c-style, based, real, integer, number-from, number-of, number-lit}
 use Rattle.aadl.specs.Tokens.{token, string-lit, word-of, marks, longest-mark, mark-of, token-of}
 use Rattle.predictive.proofs.Tests.{never, and-l, and-r}
 use Rattle.aadl.proofs.Bools.{cond-has}
@@ -115,9 +116,9 @@ c-style-long bs d e =
 
 -- What holds in each case, where its own test passes, holds of a number.
 pub number-cases : (P : Number → Type 0) (bs : List ℕ) (d : ℕ) →
-    (is-c-style bs d ≡ true → P (number (# ERROR) (run is-ident-continue bs) 0 0 0 false false)) → (eqb (peek bs d) 35 ≡ true → P (based bs (d + 1))) →
+    (is-c-style bs d ≡ true → P (c-style (run is-ident-continue bs))) → (eqb (peek bs d) 35 ≡ true → P (based bs (d + 1))) →
     (eqb (peek bs d) 46 ≡ true → P (real bs (run-end is-digit bs (d + 1)))) → P (real bs d) →
-    P (number (# INTEGER-LIT) (run-end is-grouped bs d) 0 0 (run-end is-grouped bs d) false false) → P (number-from bs d)
+    P (integer (run-end is-grouped bs d)) → P (number-from bs d)
 unfolding number-from
 number-cases P bs d c b r x i =
     let dot = eqb (peek bs d) 46 in
@@ -187,7 +188,7 @@ mark-upto bs h =
 pub token-cases : (P : Token → Type 0) (bs : List ℕ) →
     (is-whitespace (peek bs 0) ≡ true → P (token (# WHITESPACE) (run is-whitespace bs))) →
     ((eqb (peek bs 0) 45 && eqb (peek bs 1) 45) ≡ true → P (token (# COMMENT) (run not-lf bs))) → (eqb (peek bs 0) 34 ≡ true → P (string-lit (string-of bs))) →
-    (is-digit (peek bs 0) ≡ true → P (token (number-of bs .kind) (number-of bs .len))) → (is-ident-start (peek bs 0) ≡ true → P (word-of bs)) →
+    (is-digit (peek bs 0) ≡ true → P (number-lit (number-of bs))) → (is-ident-start (peek bs 0) ≡ true → P (word-of bs)) →
     P (mark-of bs) → P (token-of bs)
 unfolding token-of
 token-cases P bs w c s n i m =
@@ -225,34 +226,37 @@ word-kind w =
     let r = find-between 34 words w (omega arith) in
     (r .0, omega arith)
 
-pub longest-mark-between : (k : ℕ) (ms : List String) (bs : List ℕ) →
-    (1 ≤ longest-mark k ms bs .len → k ≤ longest-mark k ms bs .kind) × (longest-mark k ms bs .kind ≤ k + length ms)
-longest-mark-between k [] bs = (λ h. omega arith, zero-le)
-longest-mark-between k (m ∷ ms) bs =
-    let r = longest-mark-between (suc k) ms bs in
-    cond-has (λ (t : Token). (1 ≤ t .len → k ≤ t .kind) × (t .kind ≤ k + suc (length ms)))
+pub longest-mark-between : (k : ℕ) (ms : List String) (bs : List ℕ) → 1 ≤ k →
+    (1 ≤ longest-mark k ms bs .len → k ≤ longest-mark k ms bs .kind) × (longest-mark k ms bs .kind < k + length ms)
+longest-mark-between k [] bs p = (λ h. omega arith, omega (arith, p))
+longest-mark-between k (m ∷ ms) bs p =
+    let r = longest-mark-between (suc k) ms bs (suc-le-suc zero-le) in
+    cond-has (λ (t : Token). (1 ≤ t .len → k ≤ t .kind) × (t .kind < k + suc (length ms)))
     (stand (bytes m) bs && ltb (longest-mark (suc k) ms bs .len) (length (bytes m))) _ _
     (λ e. (λ h. omega arith, omega arith)) (λ e. (λ h. omega (arith, r .0 h), omega (arith, r .1)))
 
-pub mark-kind : (bs : List ℕ) → mark-of bs .kind < # STRING-LIT
+pub mark-kind : (bs : List ℕ) → mark-of bs .kind < # INTEGER-LIT
 unfolding mark-of marks
 mark-kind bs =
     let n : length marks ≡ 25 = refl in
-    cond-has (λ (t : Token). t .kind < # STRING-LIT) (eqb (longest-mark 5 marks bs .len) 0) _ _
-    (λ e. omega arith) (λ e. omega (arith, longest-mark-between 5 marks bs .1, n))
+    cond-has (λ (t : Token). t .kind < # INTEGER-LIT) (eqb (longest-mark 5 marks bs .len) 0) _ _
+    (λ e. omega arith) (λ e. omega (arith, longest-mark-between 5 marks bs (suc-le-suc zero-le) .1, n))
 
-pub number-kind : (P : ℕ → Type 0) → P (# ERROR) → P (# INTEGER-LIT) → P (# REAL-LIT) → (bs : List ℕ) → P (number-of bs .kind)
+-- only a C-style literal is an ERROR, and it begins with `0`
+pub number-kind : (P : ℕ → Type 0) (bs : List ℕ) → (peek bs 0 ≡ 48 → P (# ERROR)) → P (# INTEGER-LIT) → P (# REAL-LIT) → P (number-of bs .kind)
 unfolding number-of based
-number-kind P w n r bs =
-    let i = run is-digit bs + 1 in
-    let e = run-end is-based bs i in
+number-kind P bs w n r =
+    let d = run is-digit bs in
+    let e = run-end is-based bs (d + 1) in
     let f = cond (eqb (peek bs e) 35) (e + 1) e in
-    number-cases (λ (n : Number). P (n .kind)) bs (run is-digit bs) (λ c. w)
-    (λ h. cond-has P (has (take (e - i) (drop i bs)) 46 || is-exponent (peek bs f)) (# REAL-LIT) (# INTEGER-LIT) (λ q. r) (λ q. n)) (λ d. r) r n
+    let zero-first = eqb d 1 && eqb (peek bs 0) 48 in
+    number-cases (λ (n : Number). P (n .kind)) bs d
+    (λ c. w (eqb-true (peek bs 0) 48 (and-r (eqb d 1) (eqb (peek bs 0) 48) (and-l zero-first (radix-digit (peek bs d) (peek bs (d + 1))) c))))
+    (λ h. cond-has P (has (take (e - (d + 1)) (drop (d + 1) bs)) 46 || is-exponent (peek bs f)) (# REAL-LIT) (# INTEGER-LIT) (λ q. r) (λ q. n)) (λ o. r) r n
 
 pub token-kind-small : (bs : List ℕ) → token-of bs .kind < 128
 unfolding word-of
 token-kind-small bs =
     token-cases (λ (t : Token). t .kind < 128) bs (λ e. omega arith) (λ e. omega arith) (λ e. omega arith)
-    (λ e. number-kind (λ (k : ℕ). k < 128) (omega arith) (omega arith) (omega arith) bs)
+    (λ e. number-kind (λ (k : ℕ). k < 128) bs (λ z. omega arith) (omega arith) (omega arith))
     (λ e. word-kind (take (run is-ident-continue bs) bs) .1) (omega (arith, mark-kind bs))

@@ -60,6 +60,7 @@ pub record Token-at (text ts : List ℕ) (i : ℕ) : Type 0 where
   pub some : 1 ≤ length (from-token text ts i)
   pub token-is : getD (tokens text) i (token 0 0) ≡ token-of (from-token text ts i)
   pub kind : kind-in (getD ts i 0) ≡ token-of (from-token text ts i) .kind
+  pub len : length-in (getD ts i 0) ≡ token-of (from-token text ts i) .len
   pub text-is : token-text text ts i ≡ take (token-of (from-token text ts i) .len) (from-token text ts i)
 
 pub token-at : (text rest : List ℕ) (i : ℕ) → length text < 65536 → i < length (tokens text) → Token-at text (token-words text ++ rest) i
@@ -82,6 +83,7 @@ token-at text rest i s h =
       some = omega (arith, ends, token-positive from, length-drop (total (take i ts)) text);
       token-is = same;
       kind = ap kind-in word ∙ kind-back t k l;
+      len = n;
       text-is = text-at text ts i (omega (arith, h, length-append (token-words text) rest, count)) (omega (arith, n, ends)) ∙ ap (λ (m : ℕ). take m from) n;
     }
 

@@ -60,7 +60,7 @@ unfolding word-of
 string-begins bs =
     token-cases (λ (t : Token). t .kind ≡ # STRING-LIT → peek bs 0 ≡ 34) bs (λ e k. absurd (omega (arith, k))) (λ e k. absurd (omega (arith, k)))
     (λ e k. eqb-true (peek bs 0) 34 e)
-    (λ e k. absurd (number-kind (λ (i : ℕ). i ≡ # STRING-LIT → ⊥) (λ l. omega arith) (λ l. omega arith) (λ l. omega arith) bs k))
+    (λ e k. absurd (number-kind (λ (i : ℕ). i ≡ # STRING-LIT → ⊥) bs (λ z l. omega arith) (λ l. omega arith) (λ l. omega arith) k))
     (λ e k. absurd (omega (arith, k, word-kind (take (run is-ident-continue bs) bs) .0))) (λ k. absurd (omega (arith, k, mark-kind bs)))
 
 pub closed-unless-string : (bs : List ℕ) → (token-of bs .kind ≡ # STRING-LIT → ⊥) → token-of bs .closed ≡ true

@@ -18,10 +18,11 @@ use Rattle.predictive.specs.Grammar.{stand}
 use Rattle.predictive.proofs.Tests.{never, and-l, and-r, or-cases}
 use Rattle.aadl.specs.declared.Token.{Token}
 use Rattle.aadl.specs.declared.Quoted.{Quoted}
+use Rattle.aadl.specs.declared.Number.{Number}
 use Rattle.aadl.specs.Words.{bytes}
 use Rattle.aadl.specs.Utf8.{sequence, is-continuation}
 use Rattle.aadl.specs.Bytes.{peek, within, is-whitespace, is-digit, is-hex-digit, is-ident-start, is-ident-continue, is-exponent, is-sign, is-grouped, is-based, not-lf, run, run-end}
-use Rattle.aadl.specs.Tokens.{quoted, string-of, Number, exponent-end, based, number-of, word-of, marks, longest-mark, mark-of, token-of, tokens, lengths}
+use Rattle.aadl.specs.Tokens.{quoted, string-of, exponent-end, based, number-of, word-of, marks, longest-mark, mark-of, token-of, tokens, lengths}
 use Rattle.aadl.specs.Symbols.{is-trivia, Placed, placed, start-of}
 use Rattle.aadl.proofs.Bools.{cond-has, bounds}
 use Rattle.aadl.proofs.Lists.{every, Each}

@@ -5,6 +5,7 @@ pub mod Utf8
 pub mod Bytes
 pub mod Tokens
 pub mod WordKinds
+pub mod NumberParts
 pub mod Symbols
 pub mod Section
 pub mod Encoding

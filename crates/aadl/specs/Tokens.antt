@@ -8,6 +8,8 @@ use lib.Dec.{leb, ltb, eqb}
 use Rattle.predictive.specs.Grammar.{has, stand}
 use Rattle.aadl.specs.declared.Token.{Token}
 use Rattle.aadl.specs.declared.Quoted.{Quoted}
+use Rattle.aadl.specs.declared.Span.{Span}
+use Rattle.aadl.specs.declared.Number.{Number}
 use Rattle.aadl.specs.Kinds.{ERROR, WHITESPACE, COMMENT, INTEGER-LIT, REAL-LIT, STRING-LIT, #_}
 use Rattle.aadl.specs.Words.{bytes, kind-of-word}
 use Rattle.aadl.specs.Utf8.{sequence}
@@ -40,16 +42,17 @@ string-lit q = record { kind = # STRING-LIT; len = q .len; closed = q .closed }
 
 -- NUMBERS --------------------------------------------------------------------------------------------------------------
 
--- A number: its kind and length, where the base's digits end (they begin at 0; 0 for no base), where the inner digits begin and
--- end, whether a closing `#` was there, and whether an exponent was. Places count from the literal's start.
-pub record Number : Type 0 where
-  pub kind : ℕ
-  pub len : ℕ
-  pub base-end : ℕ
-  pub inner : ℕ
-  pub inner-end : ℕ
-  pub closed : Bool
-  pub exponent : Bool
+-- 02's request Five: "besides kind and length it gives where the base's digits and the inner digits begin and end (the first place after
+-- them), whether the closing `#` was there, and whether an exponent was. Places count from the literal's start."
+abbrev pub span : (begin end : ℕ) → Span
+span i e = record { begin = i; end = e }
+
+abbrev pub number : (kind len : ℕ) → (base inner : Span) → (closed exponent : Bool) → Number
+number k n b i c x = record { kind = k; len = n; base = b; inner = i; closed = c; exponent = x }
+
+-- "Without `#` the base is empty, at 0, and the inner part is all before an exponent": up to e.
+abbrev pub unbased : (kind len e : ℕ) → (exponent : Bool) → Number
+unbased k n e x = number k n (span 0 0) (span 0 e) false x
 
 -- "An exponent is e or E, one sign if there, perhaps no digits": where the one that may stand at i ends.
 unfoldable pub exponent-end : List ℕ → ℕ → ℕ
@@ -67,36 +70,45 @@ radix-digit m b =
 abbrev pub is-c-style : List ℕ → ℕ → Bool
 is-c-style bs d = (eqb d 1 && eqb (peek bs 0) 48) && radix-digit (peek bs d) (peek bs (d + 1))
 
-abbrev pub number : (kind len base-end inner inner-end : ℕ) → (closed exponent : Bool) → Number
-number k n b i e c x = record { kind = k; len = n; base-end = b; inner = i; inner-end = e; closed = c; exponent = x }
+-- "for a C-style literal both are empty, at 0"
+abbrev pub c-style : (len : ℕ) → Number
+c-style n = unbased (# ERROR) n 0 false
 
 -- "hex digits, `.` and `_`, then `#` if there, then an exponent if there; REAL_LIT if it had `.` or exponent, else INTEGER_LIT":
 -- from place i to e the inner digits, f the place after a closing `#`
 abbrev pub based-to : List ℕ → ℕ → ℕ → ℕ → Number
 based-to bs i e f =
     let kind = cond (has (take (e - i) (drop i bs)) 46 || is-exponent (peek bs f)) (# REAL-LIT) (# INTEGER-LIT) in
-    number kind (exponent-end bs f) (i - 1) i e (eqb (peek bs e) 35) (is-exponent (peek bs f))
+    number kind (exponent-end bs f) (span 0 (i - 1)) (span i e) (eqb (peek bs e) 35) (is-exponent (peek bs f))
 
 unfoldable pub based : List ℕ → ℕ → Number
 based bs i =
     let e = run-end is-based bs i in
     based-to bs i e (cond (eqb (peek bs e) 35) (e + 1) e)
 
--- a real whose digits end at e, where an exponent may stand
+-- a real without a base whose digits end at e, where an exponent may stand
 abbrev pub real : List ℕ → ℕ → Number
-real bs e = number (# REAL-LIT) (exponent-end bs e) 0 0 e false (is-exponent (peek bs e))
+real bs e = unbased (# REAL-LIT) (exponent-end bs e) e (is-exponent (peek bs e))
+
+-- an integer without a base, all digits
+abbrev pub integer : (len : ℕ) → Number
+integer n = unbased (# INTEGER-LIT) n n false
 
 -- "decimal digits D, then the first case that fits"; d is D's length. C-style: "the whole letter, digit and `_` run is one ERROR".
 unfoldable pub number-from : List ℕ → ℕ → Number
 number-from bs d =
-    cond (is-c-style bs d) (number (# ERROR) (run is-ident-continue bs) 0 0 0 false false)
+    cond (is-c-style bs d) (c-style (run is-ident-continue bs))
     (cond (eqb (peek bs d) 35) (based bs (d + 1))
     (cond (eqb (peek bs d) 46 && not (eqb (peek bs (d + 1)) 46)) (real bs (run-end is-digit bs (d + 1)))
     (cond (is-exponent (peek bs d)) (real bs d)
-    (number (# INTEGER-LIT) (run-end is-grouped bs d) 0 0 (run-end is-grouped bs d) false false))))
+    (integer (run-end is-grouped bs d)))))
 
 unfoldable pub number-of : List ℕ → Number
 number-of bs = number-from bs (run is-digit bs)
+
+-- what its token keeps of a number
+abbrev pub number-lit : Number → Token
+number-lit n = token (n .kind) (n .len)
 
 -- WORDS, PUNCTUATION, ANY OTHER CHARACTER ------------------------------------------------------------------------------
 
@@ -131,7 +143,7 @@ token-of bs =
     cond (is-whitespace (peek bs 0)) (token (# WHITESPACE) (run is-whitespace bs))
     (cond (eqb (peek bs 0) 45 && eqb (peek bs 1) 45) (token (# COMMENT) (run not-lf bs))
     (cond (eqb (peek bs 0) 34) (string-lit (string-of bs))
-    (cond (is-digit (peek bs 0)) (token (number-of bs .kind) (number-of bs .len))
+    (cond (is-digit (peek bs 0)) (number-lit (number-of bs))
     (cond (is-ident-start (peek bs 0)) (word-of bs)
     (mark-of bs)))))
 

@@ -14,6 +14,23 @@ pub struct Quoted {
     pub closed: bool,
 }
 
+// A part of something, by places: where it begins, and the first place after it.
+pub struct Span {
+    pub begin: usize,
+    pub end: usize,
+}
+
+// A number at the front of some bytes: its kind, its length in bytes, where the base's digits and the inner digits stand, whether a closing `#` was
+// there, and whether an exponent was. Places count from the number's start.
+pub struct Number {
+    pub kind: u32,
+    pub len: usize,
+    pub base: Span,
+    pub inner: Span,
+    pub closed: bool,
+    pub exponent: bool,
+}
+
 // The limits of a call: most bytes of a text, and most openers that stand open at once.
 pub struct Limits {
     pub bytes: usize,

@@ -1,47 +1,47 @@
--- Numbers set one after another are those that the definitions write, however many are lent; and the part of a text that a start and
--- a length name is the token's text. Assumes nothing.
-use Prim.Native.Nat.{ℕ, _+_, _≤_, _<_}
+-- Numbers set one after another, however many are lent; and the part of a text that a start and a length name is the token's text. Assumes
+-- nothing.
+use Prim.Native.Nat.{ℕ, zero, suc, _+_, _≤_, _<_}
+use native.Mathlib.Nat.{not-suc-le-zero, le-of-suc-le-suc}
 use native.Mathlib.Omega.{arith}
-use mathlib.Core.Path.{_≡_, refl, ap₂}
+use mathlib.Core.Path.{_≡_, refl, ap, ap₂}
 use mathlib.Core.Bool.{Bool, true, false}
 use mathlib.Core.List.{List, [], _∷_}
 use lib.ListN.{length, getD, take, drop, set, length-drop}
 use lib.Seq.{length-take-le}
 use lib.Dec.{ltb, leb}
 use borrow.Author.Tests.{ltb-true, ltb-false, leb-true, leb-false}
-use Rattle.aadl.specs.declared.Answer.{Answer}
-use Rattle.aadl.specs.declared.TreeAnswer.{TreeAnswer}
 use Rattle.aadl.specs.Tokens.{length-in, total, token-text}
 use Rattle.aadl.proofs.TokenText.{text-none, text-past, text-at}
-use Rattle.capi.specs.Numbers.{told, tree-told, text-start, part-told, part-of}
+use Rattle.lexer.specs.Filling.{write}
+use Rattle.capi.specs.Numbers.{text-start, part-of}
 
-pub five-set : (a : Answer) (old : List ℕ) →
-    set (set (set (set (set old 0 (a .number)) 1 (a .place)) 2 (a .tokens)) 3 (a .taken)) 4 (a .events) ≡ told a old
-unfolding told
-five-set a [] = refl
-five-set a (n ∷ []) = refl
-five-set a (n ∷ p ∷ []) = refl
-five-set a (n ∷ p ∷ t ∷ []) = refl
-five-set a (n ∷ p ∷ t ∷ k ∷ []) = refl
-five-set a (n ∷ p ∷ t ∷ k ∷ e ∷ old) = refl
+-- WRITTEN ONE BY ONE ---------------------------------------------------------------------------------------------------
 
-pub sixth-set : (a : TreeAnswer) (old : List ℕ) → set (told (a .answer) old) 5 (a .records) ≡ tree-told a old
-unfolding told tree-told
-sixth-set a [] = refl
-sixth-set a (n ∷ []) = refl
-sixth-set a (n ∷ p ∷ []) = refl
-sixth-set a (n ∷ p ∷ t ∷ []) = refl
-sixth-set a (n ∷ p ∷ t ∷ k ∷ []) = refl
-sixth-set a (n ∷ p ∷ t ∷ k ∷ e ∷ []) = refl
-sixth-set a (n ∷ p ∷ t ∷ k ∷ e ∷ r ∷ old) = refl
+pub write-long : (ns old : List ℕ) → length (write ns old) ≡ length old
+write-long [] old = refl
+write-long (n ∷ ns) [] = refl
+write-long (n ∷ ns) (o ∷ old) = ap suc (write-long ns old)
+
+-- one more, whether it is lent or not
+pub write-more : (ns old : List ℕ) (i : ℕ) → i < length ns → set (write (take i ns) old) i (getD ns i 0) ≡ write (take (suc i) ns) old
+write-more [] old i h = absurd (not-suc-le-zero h)
+write-more (n ∷ ns) [] zero h = refl
+write-more (n ∷ ns) (o ∷ old) zero h = refl
+write-more (n ∷ ns) [] (suc i) h = refl
+write-more (n ∷ ns) (o ∷ old) (suc i) h = ap (λ (l : List ℕ). n ∷ l) (write-more ns old i (le-of-suc-le-suc h))
+
+-- what is not lent is written nowhere
+pub write-most : (ns old : List ℕ) (i : ℕ) → length old ≤ i → write (take i ns) old ≡ write ns old
+write-most [] old zero h = refl
+write-most [] old (suc i) h = refl
+write-most (n ∷ ns) [] zero h = refl
+write-most (n ∷ ns) [] (suc i) h = refl
+write-most (n ∷ ns) (o ∷ old) zero h = absurd (not-suc-le-zero h)
+write-most (n ∷ ns) (o ∷ old) (suc i) h = ap (λ (l : List ℕ). n ∷ l) (write-most ns old i (le-of-suc-le-suc h))
+
+-- A TOKEN'S TEXT -------------------------------------------------------------------------------------------------------
 
 module _ (text words : List ℕ) (i : ℕ) where
-  pub two-set : (old : List ℕ) → set (set old 0 (text-start text words i)) 1 (length (token-text text words i)) ≡ part-told text words i old
-  unfolding part-told
-  two-set [] = refl
-  two-set (s ∷ []) = refl
-  two-set (s ∷ l ∷ old) = refl
-
   abbrev Named : List ℕ → Type 0
   Named t = part-of text (text-start text words i) (length t) ≡ t
 

@@ -5,6 +5,7 @@ use lib.ListN.{length, take, drop}
 use Rattle.aadl.specs.declared.Answer.{Answer}
 use Rattle.aadl.specs.declared.TreeAnswer.{TreeAnswer}
 use Rattle.aadl.specs.Tokens.{total, token-text}
+use Rattle.aadl.specs.NumberParts.{number-parts, part-numbers}
 use Rattle.lexer.specs.Filling.{write}
 
 -- "The answer holds number (0 if none), place (0 if none), tokens, taken .., events."
@@ -30,3 +31,7 @@ part-told text words i old = write (text-start text words i ∷ length (token-te
 -- The part of a text that has a start and a length.
 abbrev pub part-of : (text : List ℕ) → (start len : ℕ) → List ℕ
 part-of text start len = take len (drop start text)
+
+-- Eight lent numbers at exit, likewise: the parts of the number that a token is.
+unfoldable pub parts-told : (text words : List ℕ) → (number : ℕ) → (old : List ℕ) → List ℕ
+parts-told text words i old = write (part-numbers (number-parts text words i)) old

@@ -3,33 +3,43 @@
 
 use aadl::Answer;
 ghost use mathlib.Core.Path.{_≡_};
-ghost use lib.ListN.{length, set};
+ghost use lib.ListN.{length};
 ghost use Rattle.aadl.specs.Limits.{base};
-ghost use Rattle.aadl.specs.Tokens.{token-text};
+ghost use Rattle.aadl.specs.Tokens.{from-token, token-text};
+ghost use Rattle.aadl.specs.NumberParts.{number-parts, Parts-hold};
 ghost use Rattle.aadl.specs.WordKinds.{Words-told};
 ghost use Rattle.aadl.specs.Answers.{tokens-answer, section-answer, token-words, event-words, left-in};
 ghost use Rattle.aadl.specs.Demand.{Read-as-derived};
 ghost use Rattle.aadl.specs.Records.{record-words, tree-answer, Recorded};
-ghost use Rattle.capi.specs.Numbers.{told, tree-told, text-start, part-told, part-of};
+ghost use Rattle.lexer.specs.Filling.{write};
+ghost use Rattle.capi.specs.Numbers.{told, tree-told, text-start, part-told, part-of, parts-told};
 
-// Sets a number if it is lent.
-fn put(numbers: &mut [usize], at: usize, n: usize)
-    ensures { λ r. ⌜ now (numbers .exit) ≡ set (now (numbers .entry)) at n ⌝ }
+// Writes numbers over lent ones, as many as are lent.
+fn tell(lent: &mut [usize], numbers: &[usize])
+    ensures { λ r. ⌜ now (lent .exit) ≡ write (now (numbers .entry)) (now (lent .entry)) ⌝ }
 {
-    if at < numbers.len() {
-        numbers[at] = n;
+    let mut i = 0;
+    while i < numbers.len() {
+        if lent.len() <= i {
+            return;
+        }
+        lent[i] = numbers[i];
+        i += 1;
     }
 }
 
-// Writes an answer's five numbers, as many as are lent.
-fn tell(numbers: &mut [usize], a: Answer)
-    ensures { λ r. ⌜ now (numbers .exit) ≡ told a (now (numbers .entry)) ⌝ }
+// An answer's five numbers.
+fn tell_answer(lent: &mut [usize], a: Answer)
+    ensures { λ r. ⌜ now (lent .exit) ≡ told a (now (lent .entry)) ⌝ }
 {
-    put(numbers, 0, a.number as usize);
-    put(numbers, 1, a.place);
-    put(numbers, 2, a.tokens);
-    put(numbers, 3, a.taken);
-    put(numbers, 4, a.events);
+    let five = [
+        a.number as usize,
+        a.place,
+        a.tokens,
+        a.taken,
+        a.events,
+    ];
+    tell(lent, &five);
 }
 
 // The section call: tokens and events into lent words, the answer's numbers into lent numbers.
@@ -46,7 +56,7 @@ pub extern "C" fn gigboda_property_section(
     ensures derived { λ r. ⌜ (section-answer base (now (src .entry)) (length (now (tokens .entry))) (length (now (events .entry))) .number ≡ 0 → Read-as-derived (now (src .entry)) (section-answer base (now (src .entry)) (length (now (tokens .entry))) (length (now (events .entry)))) (now (events .exit))) ⌝ }
 {
     let a = section::property_section(src, tokens, events);
-    tell(answer, a);
+    tell_answer(answer, a);
 }
 
 // The tree call: tokens, events and the tree's records into lent words, the answer's numbers into lent numbers.
@@ -66,8 +76,16 @@ pub extern "C" fn gigboda_property_tree(
     ensures recorded { λ r. ⌜ (tree-answer base (now (src .entry)) (length (now (tokens .entry))) (length (now (events .entry))) (length (now (records .entry))) .answer .number ≡ 0 → Recorded (now (src .entry)) (tree-answer base (now (src .entry)) (length (now (tokens .entry))) (length (now (events .entry))) (length (now (records .entry)))) (now (events .exit)) (now (records .exit))) ⌝ }
 {
     let a = tree::property_tree(src, tokens, events, records);
-    tell(answer, a.answer);
-    put(answer, 5, a.records);
+    let five = a.answer;
+    let six = [
+        five.number as usize,
+        five.place,
+        five.tokens,
+        five.taken,
+        five.events,
+        a.records,
+    ];
+    tell(answer, &six);
 }
 
 // The tokens-only call: tokens into lent words, the answer's numbers into lent numbers.
@@ -78,7 +96,7 @@ pub extern "C" fn gigboda_tokenize(src: &[u8], tokens: &mut [u32], answer: &mut 
     ensures words_told { λ r. ⌜ (tokens-answer base (now (src .entry)) (length (now (tokens .entry))) .number ≡ 0 → Words-told (now (src .entry)) (tokens-answer base (now (src .entry)) (length (now (tokens .entry))) .tokens) (now (tokens .exit))) ⌝ }
 {
     let a = lexer::tokenize(src, tokens);
-    tell(answer, a);
+    tell_answer(answer, a);
 }
 
 // The text of a token, by its number: where it starts in the lent text and how long it is, into lent numbers. An exported function
@@ -91,6 +109,16 @@ pub extern "C" fn gigboda_token_text(src: &[u8], words: &[u32], number: usize, p
     let text = lexer::token_text(src, words, number);
     let len = text.len();
     let from = lexer::token_start(words, number, src.len());
-    put(part, 0, from);
-    put(part, 1, len);
+    let two = [from, len];
+    tell(part, &two);
+}
+
+// The parts of the number that a token is, by its number: eight numbers into lent numbers.
+#[no_mangle]
+pub extern "C" fn gigboda_number_parts(src: &[u8], words: &[u32], number: usize, parts: &mut [usize])
+    ensures parts_numbers { λ r. ⌜ now (parts .exit) ≡ parts-told (now (src .entry)) (now (words .entry)) number (now (parts .entry)) ⌝ }
+    ensures parts_hold { λ r. ⌜ Parts-hold (from-token (now (src .entry)) (now (words .entry)) number) (number-parts (now (src .entry)) (now (words .entry)) number) ⌝ }
+{
+    let eight = lexer::part_numbers(lexer::number_parts(src, words, number));
+    tell(parts, &eight);
 }

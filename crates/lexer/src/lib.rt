@@ -1,16 +1,20 @@
-// The tokens-only call: UTF-8, tokens, refusals 1 to 3 and 8; and the text of a token by its number.
+// The tokens-only call: UTF-8, tokens, refusals 1 to 3 and 8; and by its number the text of a token, and the parts of one that is a number.
 
 use aadl::Answer;
 use aadl::Limits;
+use aadl::Number;
+use aadl::Span;
 use classes::class_table;
 use classes::is_ascii;
 use classes::lead_table;
+use classes::peek;
 use classes::sequence_at;
 use classes::skip_ascii;
 use codec::kind_in;
 use codec::length_in;
 use codec::token_word;
 use keywords::word_tables;
+use scan::scan_number;
 use scan::scan_string;
 use scan::scan_token;
 use scan::word_bound;
@@ -20,7 +24,8 @@ ghost use Prim.Native.Nat.{_+_, _≤_, min};
 ghost use lib.ListN.{length, take, replicate};
 ghost use Rattle.aadl.specs.Limits.{base, Allowed};
 ghost use Rattle.aadl.specs.Utf8.{ill-formed};
-ghost use Rattle.aadl.specs.Tokens.{tokens, unclosed, total, token-text};
+ghost use Rattle.aadl.specs.Tokens.{tokens, unclosed, total, from-token, token-text};
+ghost use Rattle.aadl.specs.NumberParts.{number-parts, bit, part-numbers, Parts-hold};
 ghost use Rattle.aadl.specs.WordKinds.{Words-told};
 ghost use Rattle.aadl.specs.Answers.{refused, tokens-answer, token-words, left-in};
 ghost use Rattle.lexer.specs.Filling.{write, filled-of};
@@ -173,6 +178,63 @@ pub fn token_text<'a>(src: &'a [u8], words: &[u32], number: usize) -> &'a [u8]
         return &src[..0];
     }
     &src[from..end]
+}
+
+const NO_NUMBER: Number = Number {
+    kind: 0,
+    len: 0,
+    base: Span { begin: 0, end: 0 },
+    inner: Span { begin: 0, end: 0 },
+    closed: false,
+    exponent: false,
+};
+
+// The parts of the number that a token is, by its number: all zero where there is no such token or no number of its kind and length stands there. The words
+// may be any.
+pub fn number_parts(src: &[u8], words: &[u32], number: usize) -> Number
+    ensures parts { λ r. ⌜ r ≡ number-parts (now (src .entry)) (now (words .entry)) number ⌝ }
+    ensures parts_hold { λ r. ⌜ Parts-hold (from-token (now (src .entry)) (now (words .entry)) number) r ⌝ }
+{
+    if words.len() <= number {
+        return NO_NUMBER;
+    }
+    let at = token_start(words, number, src.len());
+    let first = peek(src, at);
+    if !((b'0' <= first) & (first <= b'9')) {
+        return NO_NUMBER;
+    }
+    let classes = class_table();
+    let n = scan_number(src, at, &classes);
+    let word = words[number];
+    if (n.kind == kind_in(word)) & (n.len == length_in(word)) {
+        return n;
+    }
+    NO_NUMBER
+}
+
+fn bit(b: bool) -> usize
+    ensures { λ r. ⌜ r ≡ bit b ⌝ }
+{
+    if b {
+        return 1;
+    }
+    0
+}
+
+// A number as eight numbers in a row, as it is told outside.
+pub fn part_numbers(n: Number) -> [usize; 8]
+    ensures { λ r. ⌜ r ≡ part-numbers n ⌝ }
+{
+    [
+        n.kind as usize,
+        n.len,
+        n.base.begin,
+        n.base.end,
+        n.inner.begin,
+        n.inner.end,
+        bit(n.closed),
+        bit(n.exponent),
+    ]
 }
 
 // 01's limits.

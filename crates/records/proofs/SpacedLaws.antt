@@ -22,11 +22,3 @@ pub spaced-more : {old new : List ℕ} {at end : ℕ} (ws later : List ℕ) (i n
     Wrote new end (32 ∷ decimal (getD ws i 0)) later next → Wrote old at (spaced (take (suc i) ws)) later next
 spaced-more ws later i next h w x =
     wrote-same (wrote-then w x) (spaced-append (take i ws) (getD ws i 0) ∙ ap spaced (sym (take-suc ws i 0 h)))
-
--- behind a name and the numbers before it; at first there is none
-pub named : {old new : List ℕ} {at end : ℕ} {name : List ℕ} → Wrote old at name new end → Wrote old at (name ++ spaced []) new end
-named {old} {new} {at} {end} {name} w = wrote-same w (sym (append-nil name))
-
-pub named-more : {old new later : List ℕ} {at end next : ℕ} (name ns : List ℕ) (n : ℕ) → Wrote old at (name ++ spaced ns) new end →
-    Wrote new end (32 ∷ decimal n) later next → Wrote old at (name ++ spaced (ns ++ (n ∷ []))) later next
-named-more name ns n w x = wrote-same (wrote-then w x) (append-assoc name (spaced ns) (one n) ∙ ap (λ (bs : List ℕ). name ++ bs) (spaced-append ns n))

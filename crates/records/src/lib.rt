@@ -1,7 +1,9 @@
 // What `replay` writes for a record: the lines of a call's answer and of the words that it leaves, into lent bytes. tools/README.md says what the lines are.
 // What has no room is left out (`writing`): a caller sees to room.
 use aadl::Answer;
+use aadl::Number;
 use aadl::TreeAnswer;
+use lexer::part_numbers;
 use writing::least;
 use writing::put_byte;
 use writing::put_decimal;
@@ -11,6 +13,7 @@ ghost use mathlib.Core.List.{[], _∷_};
 ghost use lib.ListN.{length, take, replicate};
 ghost use Rattle.aadl.specs.Words.{bytes};
 ghost use Rattle.aadl.specs.Listing.{decimal};
+ghost use Rattle.aadl.specs.NumberParts.{part-numbers};
 ghost use Rattle.writing.specs.Written.{Wrote};
 ghost use Rattle.records.specs.Records.{old-word, spaced, line, count, rest, named-answer, word-lines, more-lines, record-lines, tree-lines};
 
@@ -82,6 +85,28 @@ fn put_words(out: &mut [u8], at: usize, words: &[u32]) -> usize
     end
 }
 
+// Numbers, each after a space.
+fn put_numbers(out: &mut [u8], at: usize, numbers: &[usize]) -> usize
+    ensures { λ r. ⌜ Wrote (now (out .entry)) at (spaced (now (numbers .entry))) (now (out .exit)) r ⌝ }
+{
+    let mut end = least(at, out.len());
+    let mut i = 0;
+    while i < numbers.len() {
+        end = put_number(out, end, numbers[i] as u64);
+        i += 1;
+    }
+    end
+}
+
+// A line of numbers after a name.
+fn put_row(out: &mut [u8], at: usize, name: &[u8], numbers: &[usize]) -> usize
+    ensures { λ r. ⌜ Wrote (now (out .entry)) at (line (now (name .entry)) (now (numbers .entry))) (now (out .exit)) r ⌝ }
+{
+    let mut end = put_text(out, at, name);
+    end = put_numbers(out, end, numbers);
+    put_byte(out, end, b'\n')
+}
+
 // A line of the first words after a name.
 fn put_line(out: &mut [u8], at: usize, name: &[u8], words: &[u32], used: usize) -> usize
     ensures { λ r. ⌜ Wrote (now (out .entry)) at (line (now (name .entry)) (take used (now (words .entry)))) (now (out .exit)) r ⌝ }
@@ -96,29 +121,15 @@ fn put_line(out: &mut [u8], at: usize, name: &[u8], words: &[u32], used: usize) 
 fn put_answer(out: &mut [u8], at: usize, a: Answer) -> usize
     ensures { λ r. ⌜ Wrote (now (out .entry)) at (named-answer a) (now (out .exit)) r ⌝ }
 {
-    let mut end = put_text(out, at, b"answer");
-    end = put_number(out, end, a.number as u64);
-    end = put_number(out, end, a.place as u64);
-    end = put_number(out, end, a.tokens as u64);
-    end = put_number(out, end, a.taken as u64);
-    put_number(out, end, a.events as u64)
-}
-
-fn put_rest(out: &mut [u8], at: usize, tokens: usize, events: usize) -> usize
-    ensures { λ r. ⌜ Wrote (now (out .entry)) at (line (bytes "rest") (tokens ∷ events ∷ [])) (now (out .exit)) r ⌝ }
-{
-    let mut end = put_text(out, at, b"rest");
-    end = put_number(out, end, tokens as u64);
-    end = put_number(out, end, events as u64);
-    put_byte(out, end, b'\n')
-}
-
-fn put_left(out: &mut [u8], at: usize, left: usize) -> usize
-    ensures { λ r. ⌜ Wrote (now (out .entry)) at (line (bytes "left") (left ∷ [])) (now (out .exit)) r ⌝ }
-{
-    let mut end = put_text(out, at, b"left");
-    end = put_number(out, end, left as u64);
-    put_byte(out, end, b'\n')
+    let end = put_text(out, at, b"answer");
+    let five = [
+        a.number as usize,
+        a.place,
+        a.tokens,
+        a.taken,
+        a.events,
+    ];
+    put_numbers(out, end, &five)
 }
 
 // The end of the answer's line, and the lines of the token and event words.
@@ -128,12 +139,11 @@ fn put_buffers(out: &mut [u8], at: usize, a: Answer, tokens: &[u32], events: &[u
     let mut end = put_byte(out, at, b'\n');
     end = put_line(out, end, b"tokens", tokens, a.tokens);
     end = put_line(out, end, b"events", events, a.events);
-    put_rest(
-        out,
-        end,
+    let rests = [
         rest_of(tokens, a.number, a.tokens),
         rest_of(events, a.number, a.events),
-    )
+    ];
+    put_row(out, end, b"rest", &rests)
 }
 
 // The lines of words that a call writes besides: those that it used, and how many of the others keep what they held.
@@ -141,7 +151,8 @@ fn put_more(out: &mut [u8], at: usize, number: u32, used: usize, words: &[u32]) 
     ensures { λ r. ⌜ Wrote (now (out .entry)) at (more-lines number used (now (words .entry))) (now (out .exit)) r ⌝ }
 {
     let end = put_line(out, at, b"more", words, used);
-    put_left(out, end, rest_of(words, number, used))
+    let left = [rest_of(words, number, used)];
+    put_row(out, end, b"left", &left)
 }
 
 // The four lines of a record.
@@ -169,4 +180,12 @@ pub fn put_tree(
     end = put_number(out, end, a.records as u64);
     end = put_buffers(out, end, answer, tokens, events);
     put_more(out, end, answer.number, used, records)
+}
+
+// The line of a record of number parts.
+pub fn put_parts(out: &mut [u8], at: usize, n: Number) -> usize
+    ensures { λ r. ⌜ Wrote (now (out .entry)) at (line (bytes "parts") (part-numbers n)) (now (out .exit)) r ⌝ }
+{
+    let eight = part_numbers(n);
+    put_row(out, at, b"parts", &eight)
 }

@@ -3,11 +3,16 @@ use Prim.Native.Nat.{ℕ}
 use mathlib.Core.Bool.{Bool, cond}
 use mathlib.Core.List.{List, []}
 use lib.ListN.{replicate}
+use lib.Dec.{eqb}
 use Rattle.aadl.specs.Limits.{base}
 use Rattle.aadl.specs.Answers.{tokens-answer, section-answer, token-words, event-words, left-in}
 use Rattle.aadl.specs.Records.{record-words, tree-answer}
 use Rattle.aadl.specs.declared.Answer.{Answer}
-use Rattle.records.specs.Records.{old-word, record-lines, tree-lines}
+use Rattle.aadl.specs.Words.{bytes}
+use Rattle.aadl.specs.NumberParts.{number-parts, part-numbers}
+use Rattle.records.specs.Records.{old-word, line, record-lines, tree-lines}
+use Rattle.replay.specs.declared.Head.{Head}
+use Rattle.replay.specs.Heads.{tree, parts}
 
 abbrev pub answer-of : (only : Bool) → (text : List ℕ) → (tokens events : ℕ) → Answer
 answer-of only text m n = cond only (tokens-answer base text m) (section-answer base text m n)
@@ -31,3 +36,16 @@ tree-called text m n k =
     (left-in a (token-words text) (replicate m old-word))
     (left-in a (event-words base text) (replicate n old-word))
     (left-in a (record-words base text) (replicate k old-word))
+
+-- The line of the parts of a token, in the words that the tokens-only call left.
+unfoldable pub parts-called : (text : List ℕ) → (tokens number : ℕ) → List ℕ
+parts-called text m i =
+    let a = tokens-answer base text m in
+    line (bytes "parts") (part-numbers (number-parts text (left-in a (token-words text) (replicate m old-word)) i))
+
+-- The lines of the call that a record asks for.
+unfoldable pub made : Head → (text : List ℕ) → (tokens events records : ℕ) → List ℕ
+made h text m n k =
+    cond (eqb (h .call) tree) (tree-called text m n k)
+    (cond (eqb (h .call) parts) (parts-called text m (h .own))
+    (called (h .only) text m n))

@@ -5,6 +5,7 @@
 use aadl::Answer;
 use libc::STDIN_FILENO;
 use records::fill;
+use records::put_parts;
 use records::put_record;
 use records::put_tree;
 use streams::read_full;
@@ -17,7 +18,7 @@ ghost use lib.ListN.{length, replicate};
 ghost use Rattle.aadl.specs.Words.{bytes};
 ghost use Rattle.writing.specs.Written.{Wrote};
 ghost use Rattle.aadl.specs.Answers.{token-words, left-in};
-ghost use Rattle.replay.specs.Calls.{answer-of, events-left, called, tree-called};
+ghost use Rattle.replay.specs.Calls.{answer-of, events-left, called, tree-called, parts-called, made};
 ghost use Rattle.replay.specs.Heads.{number-at, head-from, extended, known, record-head};
 
 // How many bytes, token words and event words the longest record has, and how many record words: four for a record.
@@ -34,8 +35,15 @@ const LINES: usize = 1601296;
 // In a record, in the place of a number: a record of the extended form, the largest settings, no event words.
 const NONE: u32 = 4294967295;
 
-// The numbers with which a record begins: the call (0 for the section call or the tokens-only call, 1 for the tree call), the text's bytes, the lent words, and
-// whether the record says that no event words are lent, which are 0 then. The last number is the call's own: the tree call's lent record words.
+// The calls of a record: the section call or the tokens-only call, the tree call, and the tokens-only call with the parts of one of its tokens.
+const PLAIN: u32 = 0;
+
+const TREE: u32 = 1;
+
+const PARTS: u32 = 5;
+
+// The numbers with which a record begins: the call, the text's bytes, the lent words, and whether the record says that no event words are lent, which are
+// 0 then. The last number is the call's own: the tree call's lent record words, or the number of a token.
 struct Head {
     call: u32,
     text: usize,
@@ -112,6 +120,36 @@ fn call_tree(
     put_tree(out, at, a, tokens, events, records)
 }
 
+// Makes a record's tokens-only call on words that are filled anew, and puts the parts of one of its tokens.
+fn call_parts(src: &[u8], tokens: &mut [u32], number: usize, out: &mut [u8], at: usize) -> usize
+    ensures { λ r. ⌜ Wrote (now (out .entry)) at (parts-called (now (src .entry)) (length (now (tokens .entry))) number) (now (out .exit)) r ⌝ }
+{
+    fill(tokens);
+    lexer::tokenize(src, tokens);
+    put_parts(out, at, lexer::number_parts(src, tokens, number))
+}
+
+// Makes the call that a record asks for.
+fn make(
+    h: Head,
+    src: &[u8],
+    tokens: &mut [u32],
+    events: &mut [u32],
+    records: &mut [u32],
+    out: &mut [u8],
+    at: usize,
+) -> usize
+    ensures { λ r. ⌜ Wrote (now (out .entry)) at (made h (now (src .entry)) (length (now (tokens .entry))) (length (now (events .entry))) (length (now (records .entry)))) (now (out .exit)) r ⌝ }
+{
+    if h.call == TREE {
+        return call_tree(src, tokens, events, records, out, at);
+    }
+    if h.call == PARTS {
+        return call_parts(src, tokens, h.own, out, at);
+    }
+    call(src, tokens, events, h.only, out, at)
+}
+
 // The text and the lent words, which stand in a row in both forms of a record, with a call and its own number.
 fn head_from(b: &[u8; 16], call: u32, own: usize) -> Head
     ensures { λ r. ⌜ r ≡ head-from (now (b .entry)) call own ⌝ }
@@ -140,7 +178,7 @@ fn is_known(front: &[u8; 16], back: &[u8; 16]) -> bool
 {
     let call = number_at(front, 4);
     let own = number_at(back, 12);
-    (number_at(front, 8) == NONE) & ((call == 1) | ((call == 0) & (own == 0)))
+    (number_at(front, 8) == NONE) & ((call == TREE) | (call == PARTS) | ((call == PLAIN) & (own == 0)))
 }
 
 fn head_of(front: &[u8; 16], back: &[u8; 16]) -> Head
@@ -149,7 +187,7 @@ fn head_of(front: &[u8; 16], back: &[u8; 16]) -> Head
     if is_extended(front) {
         return head_from(back, number_at(front, 4), number_at(back, 12) as usize);
     }
-    head_from(front, 0, 0)
+    head_from(front, PLAIN, 0)
 }
 
 // The line for a record that ends early, asks for too much or for a call that there is none of. Nothing more is read after it.
@@ -171,6 +209,14 @@ fn failed() -> Step
     Step { at: 0, on: false }
 }
 
+// How many record words a record asks for.
+fn lent_records(h: Head) -> usize {
+    if h.call == TREE {
+        return h.own;
+    }
+    0
+}
+
 // Lends what a record asks for, if there is as much.
 fn lend(
     text: &[u8],
@@ -184,18 +230,19 @@ fn lend(
     let n = h.text;
     let t = h.tokens;
     let e = h.events;
-    let m = h.own;
+    let m = lent_records(h);
     if text.len() < n || tokens.len() < t || events.len() < e || records.len() < m {
         return bad(out, at);
     }
-    let src = &text[0..n];
-    let lent_tokens = &mut tokens[0..t];
-    let lent_events = &mut events[0..e];
-    let next = if h.call == 1 {
-        call_tree(src, lent_tokens, lent_events, &mut records[0..m], out, at)
-    } else {
-        call(src, lent_tokens, lent_events, h.only, out, at)
-    };
+    let next = make(
+        h,
+        &text[0..n],
+        &mut tokens[0..t],
+        &mut events[0..e],
+        &mut records[0..m],
+        out,
+        at,
+    );
     Step { at: next, on: true }
 }
 

@@ -5,19 +5,18 @@ use native.Mathlib.Omega.{arith}
 use mathlib.Core.Path.{_≡_, refl, sym, ap, subst, _∙_}
 use mathlib.Core.Bool.{Bool, true, false, Bool·beq, not, _&&_, _||_, and-true}
 use mathlib.Core.List.{List}
-use lib.ListN.{getD, drop}
+use lib.ListN.{length, getD, drop}
 use lib.Seq.{drop-cons, getD-drop}
 use lib.Dec.{eqb, ltb}
-use borrow.Author.Tests.{not-true}
+use borrow.Author.Tests.{not-true, eqb-true}
 use Rattle.predictive.proofs.Tests.{never, or-neither}
 use Rattle.aadl.specs.Kinds.{#_, WHITESPACE, COMMENT, INTEGER-LIT, STRING-LIT, IDENT}
 use Rattle.aadl.specs.Bytes.{peek, is-whitespace, is-digit, is-ident-start, is-ident-continue, not-lf, run, run-end}
-use Rattle.aadl.specs.Tokens.{token, string-of, string-lit, number-of, word-of, marks, mark-of, token-of}
+use Rattle.aadl.specs.Tokens.{token, string-of, string-lit, number-of, number-lit, word-of, marks, mark-of, token-of}
 use Rattle.aadl.proofs.RunLaws.{run-more, run-rest}
 use Rattle.aadl.proofs.Bools.{below, below-at}
 use Rattle.classes.specs.Classes.{BEGINS-OTHERS, lead-of}
 use Rattle.classes.proofs.ClassTable.{beq-true}
-use Rattle.scan.specs.Inner.{number-token}
 use Rattle.scan.specs.Places.{Begins, Other, Dashes}
 
 -- what all bytes with a property have, by a test of each byte
@@ -62,6 +61,10 @@ module _ (s : List ℕ) (at k : ℕ) (h : Begins s at k) where
   run-on : (g : ℕ → Bool) → g (peek (drop at s) 0) ≡ true → run-end g s (at + 1) - at ≡ run g (drop at s)
   run-on g t = ap (λ (e : ℕ). e - at) (sym (run-more g s at (h .inside) (ap g first-byte ∙ t))) ∙ run-rest g s at
 
+-- where a digit stands, a number begins
+pub number-begins : (s : List ℕ) (at : ℕ) → at < length s → getD s at 0 < 256 → is-digit (getD s at 0) ≡ true → Begins s at (# INTEGER-LIT)
+number-begins s at h b e = record { inside = h; byte = b; leads = eqb-true (lead-of (getD s at 0)) (# INTEGER-LIT) (sym (sorted (getD s at 0) b .digit) ∙ e) }
+
 -- THE SORTS ------------------------------------------------------------------------------------------------------------
 
 module _ (s : List ℕ) (at : ℕ) where
@@ -77,7 +80,7 @@ module _ (s : List ℕ) (at : ℕ) where
       let z = first-sorted s at _ h in
       rw (z .white, no-dash s at _ h refl, z .quote) refl
 
-  pub digits-token : Begins s at (# INTEGER-LIT) → number-token (number-of (drop at s)) ≡ token-of (drop at s)
+  pub digits-token : Begins s at (# INTEGER-LIT) → number-lit (number-of (drop at s)) ≡ token-of (drop at s)
   unfolding token-of
   digits-token h =
       let z = first-sorted s at _ h in

@@ -1,6 +1,6 @@
--- The cases of a number by what stands where its digits end, in places of the whole text. The definition counts its places from the token's
+-- The cases of a number by what stands where its digits end, in places of the whole text. The definition counts its places from the number's
 -- start; a place in the text is `at` more. Assumes nothing.
-use Prim.Native.Nat.{ℕ, _+_, _-_}
+use Prim.Native.Nat.{ℕ, _+_, _-_, _≤_, _<_}
 use native.Mathlib.Nat.{add-assoc}
 use native.Mathlib.Omega.{arith}
 use mathlib.Core.Path.{_≡_, refl, sym, ap, _∙_}
@@ -10,21 +10,10 @@ use lib.ListN.{take, drop}
 use lib.Seq.{getD-drop, drop-drop}
 use lib.Dec.{eqb}
 use Rattle.predictive.specs.Grammar.{has}
-use Rattle.aadl.specs.declared.Token.{Token}
-use Rattle.aadl.specs.Kinds.{#_, ERROR, INTEGER-LIT, REAL-LIT}
+use Rattle.aadl.specs.declared.Number.{Number}
+use Rattle.aadl.specs.Kinds.{#_, INTEGER-LIT, REAL-LIT}
 use Rattle.aadl.specs.Bytes.{peek, is-digit, is-ident-continue, is-exponent, is-sign, is-grouped, is-based, run, run-end}
-use Rattle.aadl.specs.Tokens.{token, exponent-end, radix-digit, based-to, based, number-from}
-use Rattle.scan.specs.Inner.{number-token}
-
--- BASES --------------------------------------------------------------------------------------------------------------
-
--- a number with a base from the places that a scanner found
-pub based-at : (bs : List ℕ) (i e f : ℕ) → e ≡ run-end is-based bs i → f ≡ cond (eqb (peek bs e) 35) (e + 1) e
-    → number-token (based-to bs i e f) ≡ number-token (based bs i)
-unfolding based
-based-at bs i e f p q =
-    (λ k. number-token (based-to bs i e (q k)))
-    ∙ (λ k. number-token (based-to bs i (p k) (cond (eqb (peek bs (p k)) 35) (p k + 1) (p k))))
+use Rattle.aadl.specs.Tokens.{span, number, unbased, exponent-end, radix-digit, c-style, based, real, integer, number-from}
 
 -- PLACES ---------------------------------------------------------------------------------------------------------------
 
@@ -53,28 +42,55 @@ module _ (s : List ℕ) (at : ℕ) where
       later at x _ _ ∙ ap (λ (n : ℕ). cond x n (at + i)) (later at g _ _)
       ∙ (λ j. cond (e j) (cond (f j) (run-end-at is-digit i 2 j) (run-end-at is-digit i 1 j)) (at + i))
 
-  based-at-start : (i : ℕ) → token (based s (at + i) .kind) (based s (at + i) .len - at) ≡ number-token (based (drop at s) i)
+-- DIGITS BEFORE AN EXPONENT --------------------------------------------------------------------------------------------
+
+  -- k is the place in the number that p is in the text
+  module _ (k p : ℕ) (same : at + k ≡ p) where
+    byte-there : peek s p ≡ peek (drop at s) k
+    byte-there = ap (peek s) (sym same) ∙ sym (getD-drop at s k 0)
+
+    exponent-there : exponent-end s p - at ≡ exponent-end (drop at s) k
+    exponent-there = omega (arith, exponent-at k, ap (exponent-end s) same)
+
+  -- a real without a base
+  pub real-at : (e : ℕ) → at ≤ e → unbased (# REAL-LIT) (exponent-end s e - at) (e - at) (is-exponent (peek s e)) ≡ real (drop at s) (e - at)
+  real-at e h =
+      let k = e - at in
+      let same : at + k ≡ e = omega (arith, h) in
+      (λ j. unbased (# REAL-LIT) (exponent-there k e same j) k (is-exponent (byte-there k e same j)))
+
+  -- a number with a base, from the places that a scanner found
+  pub based-at : (i e f : ℕ) → at < i → e ≡ run-end is-based s i → f ≡ cond (eqb (peek s e) 35) (e + 1) e →
+      let kind = cond (has (take (e - i) (drop i s)) 46 || is-exponent (peek s f)) (# REAL-LIT) (# INTEGER-LIT) in
+      number kind (exponent-end s f - at) (span 0 (i - 1 - at)) (span (i - at) (e - at)) (eqb (peek s e) 35) (is-exponent (peek s f)) ≡ based (drop at s) (i - at)
   unfolding based
-  based-at-start i =
+  based-at i e f h p q =
       let bs = drop at s in
-      let e = run-end is-based bs i in
-      let f = cond (eqb (peek bs e) 35) (e + 1) e in
-      let hash : eqb (peek bs e) 35 ≡ eqb (peek s (at + e)) 35 = ap (λ (b : ℕ). eqb b 35) (getD-drop at s e 0) in
-      let ends : at + e ≡ run-end is-based s (at + i) = run-end-of is-based i in
-      let past : at + f ≡ cond (eqb (peek s (at + e)) 35) (at + e + 1) (at + e) =
-      later at (eqb (peek bs e) 35) (e + 1) e ∙ (λ j. cond (hash j) (sym (add-assoc at e 1) j) (at + e)) in
-      let inner : take (at + e - (at + i)) (drop (at + i) s) ≡ take (e - i) (drop i bs) = (λ j. take (gone e i j) (sym (drop-drop i at s) j)) in
-      let x : is-exponent (peek s (at + f)) ≡ is-exponent (peek bs f) = ap is-exponent (sym (getD-drop at s f 0)) in
-      let len : exponent-end s (at + f) - at ≡ exponent-end bs f = omega (arith, exponent-at f) in
-      ap (λ (t : Token). token (t .kind) (t .len - at)) (sym (based-at s (at + i) (at + e) (at + f) ends past))
-      ∙ (λ j. token (cond (has (inner j) 46 || x j) (# REAL-LIT) (# INTEGER-LIT)) (len j))
+      let k = i - at in
+      let m = run-end is-based bs k in
+      let g = cond (eqb (peek bs m) 35) (m + 1) m in
+      let begins : at + k ≡ i = omega (arith, h) in
+      let ends : at + m ≡ e = run-end-of is-based k ∙ ap (run-end is-based s) begins ∙ sym p in
+      let hash : eqb (peek s e) 35 ≡ eqb (peek bs m) 35 = ap (λ (b : ℕ). eqb b 35) (byte-there m e ends) in
+      let past : at + g ≡ f = later at (eqb (peek bs m) 35) (m + 1) m ∙ (λ j. cond (sym hash j) ((sym (add-assoc at m 1) ∙ ap (λ (n : ℕ). n + 1) ends) j) (ends j)) ∙ sym q in
+      let gap : e - i ≡ m - k = (λ j. sym ends j - sym begins j) ∙ gone m k in
+      let inner : take (e - i) (drop i s) ≡ take (m - k) (drop k bs) = (λ j. take (gap j) ((ap (λ (n : ℕ). drop n s) (sym begins) ∙ sym (drop-drop k at s)) j)) in
+      let x : is-exponent (peek s f) ≡ is-exponent (peek bs g) = ap is-exponent (byte-there g f past) in
+      let inner-end : e - at ≡ m = ap (λ (n : ℕ). n - at) (sym ends) ∙ back m in
+      (λ j. number (cond (has (inner j) 46 || x j) (# REAL-LIT) (# INTEGER-LIT)) (exponent-there g f past j) (span 0 (one-less i j)) (span k (inner-end j)) (hash j) (x j))
     where
-      gone : (e i : ℕ) → at + e - (at + i) ≡ e - i
-      gone e i = omega arith
+      gone : (m k : ℕ) → at + m - (at + k) ≡ m - k
+      gone m k = omega arith
+
+      back : (m : ℕ) → at + m - at ≡ m
+      back m = omega arith
+
+      one-less : (i : ℕ) → i - 1 - at ≡ i - at - 1
+      one-less i = omega arith
 
 -- CASES ----------------------------------------------------------------------------------------------------------------
 
--- The digits of the token at a place end at d, where m stands, and c behind it.
+-- The digits of the number at a place end at d, where m stands, and c behind it.
 pub record Digits (s : List ℕ) (at d m c : ℕ) : Type 0 where
   pub ends : at + (d - at) ≡ d
   pub here : m ≡ peek s d
@@ -87,43 +103,39 @@ module _ {s : List ℕ} {at d m c : ℕ} (z : Digits s at d m c) where
   next : peek (drop at s) (d - at + 1) ≡ c
   next = peek-at s at (d - at) 1 ∙ ap (λ (i : ℕ). peek s (i + 1)) (z .ends) ∙ sym (z .next)
 
-  -- the number, its C-style test, and a case of it by the tests' results
-  abbrev pub number : Token
-  number = number-token (number-from (drop at s) (d - at))
+  -- the number, and its C-style test
+  abbrev pub whole : Number
+  whole = number-from (drop at s) (d - at)
 
-  abbrev pub c-style : Bool
-  c-style = (eqb (d - at) 1 && eqb (peek (drop at s) 0) 48) && radix-digit m c
+  abbrev pub c-style-test : Bool
+  c-style-test = (eqb (d - at) 1 && eqb (peek (drop at s) 0) 48) && radix-digit m c
 
   -- a C-style literal is the whole run of letters, digits and `_`
-  pub c-style-number : c-style ≡ true → (r : ℕ) → r ≡ run is-ident-continue (drop at s) → token (# ERROR) r ≡ number
+  pub c-style-number : c-style-test ≡ true → (r : ℕ) → r ≡ run is-ident-continue (drop at s) → c-style r ≡ whole
   unfolding number-from
-  c-style-number t r e = rw (here, next, t) (ap (token (# ERROR)) e)
+  c-style-number t r e = rw (here, next, t) (ap c-style e)
 
-  pub based-number : c-style ≡ false → eqb m 35 ≡ true → (u : Token) → u ≡ number-token (based s (d + 1)) → token (u .kind) (u .len - at) ≡ number
-  unfolding number-from
-  based-number t h u e =
-      let place : at + (d - at + 1) ≡ d + 1 = omega (arith, z .ends) in
-      rw (here, next, t, h) (ap (λ (v : Token). token (v .kind) (v .len - at)) (e ∙ ap (λ (i : ℕ). number-token (based s i)) (sym place)) ∙ based-at-start s at (d - at + 1))
+  module _ (t : c-style-test ≡ false) where
+    pub based-number : eqb m 35 ≡ true → based (drop at s) (d + 1 - at) ≡ whole
+    unfolding number-from
+    based-number h = let place : d + 1 - at ≡ d - at + 1 = omega (arith, z .ends) in rw (here, next, t, h) (ap (based (drop at s)) place)
 
-  pub dotted-number : c-style ≡ false → eqb m 35 ≡ false → (eqb m 46 && not (eqb c 46)) ≡ true → (e : ℕ) → e ≡ exponent-end s (run-end is-digit s (d + 1)) →
-      token (# REAL-LIT) (e - at) ≡ number
-  unfolding number-from
-  dotted-number t h o e f =
-      let r = run-end is-digit (drop at s) (d - at + 1) in
-      let place : at + r ≡ run-end is-digit s (d + 1) = run-end-at s at is-digit (d - at) 1 ∙ ap (λ (i : ℕ). run-end is-digit s (i + 1)) (z .ends) in
-      let len : e - at ≡ exponent-end (drop at s) r = omega (arith, f, exponent-at s at r, ap (exponent-end s) place) in
-      rw (here, next, t, h, o) (ap (token (# REAL-LIT)) len)
+    module _ (h : eqb m 35 ≡ false) where
+      pub dotted-number : (eqb m 46 && not (eqb c 46)) ≡ true → (e : ℕ) → e ≡ run-end is-digit s (d + 1) → real (drop at s) (e - at) ≡ whole
+      unfolding number-from
+      dotted-number o e f =
+          let r = run-end is-digit (drop at s) (d - at + 1) in
+          let place : at + r ≡ e = run-end-at s at is-digit (d - at) 1 ∙ ap (λ (i : ℕ). run-end is-digit s (i + 1)) (z .ends) ∙ sym f in
+          let same : e - at ≡ r = omega (arith, place) in
+          rw (here, next, t, h, o) (ap (real (drop at s)) same)
 
-  pub exponent-number : c-style ≡ false → eqb m 35 ≡ false → (eqb m 46 && not (eqb c 46)) ≡ false → is-exponent m ≡ true → (e : ℕ) → e ≡ exponent-end s d →
-      token (# REAL-LIT) (e - at) ≡ number
-  unfolding number-from
-  exponent-number t h o x e f =
-      let len : e - at ≡ exponent-end (drop at s) (d - at) = omega (arith, f, exponent-at s at (d - at), ap (exponent-end s) (z .ends)) in
-      rw (here, next, t, h, o, x) (ap (token (# REAL-LIT)) len)
+      module _ (o : (eqb m 46 && not (eqb c 46)) ≡ false) where
+        pub exponent-number : is-exponent m ≡ true → real (drop at s) (d - at) ≡ whole
+        unfolding number-from
+        exponent-number x = rw (here, next, t, h, o, x) refl
 
-  pub plain-number : c-style ≡ false → eqb m 35 ≡ false → (eqb m 46 && not (eqb c 46)) ≡ false → is-exponent m ≡ false → (e : ℕ) → e ≡ run-end is-grouped s d →
-      token (# INTEGER-LIT) (e - at) ≡ number
-  unfolding number-from
-  plain-number t h o x e f =
-      let len : e - at ≡ run-end is-grouped (drop at s) (d - at) = omega (arith, f, run-end-of s at is-grouped (d - at), ap (run-end is-grouped s) (z .ends)) in
-      rw (here, next, t, h, o, x) (ap (token (# INTEGER-LIT)) len)
+        pub plain-number : is-exponent m ≡ false → (e : ℕ) → e ≡ run-end is-grouped s d → integer (e - at) ≡ whole
+        unfolding number-from
+        plain-number x e f =
+            let len : e - at ≡ run-end is-grouped (drop at s) (d - at) = omega (arith, f, run-end-of s at is-grouped (d - at), ap (run-end is-grouped s) (z .ends)) in
+            rw (here, next, t, h, o, x) (ap integer len)

@@ -4,11 +4,7 @@ use mathlib.Core.Bool.{cond}
 use mathlib.Core.List.{List}
 use lib.Dec.{eqb}
 use Rattle.aadl.specs.declared.Token.{Token}
-use Rattle.aadl.specs.Tokens.{Number, token, marks, longest-mark}
-
--- what a token keeps of a number
-abbrev pub number-token : Number → Token
-number-token n = token (n .kind) (n .len)
+use Rattle.aadl.specs.Tokens.{token, marks, longest-mark}
 
 -- a mark of one byte by its kind, which is 0 for none
 abbrev pub single : ℕ → Token

@@ -2,7 +2,9 @@
 // there, as aadl's `token-of` has it. `scan_token` goes by the first byte to the scanner of its sort, which asks for such a byte and does
 // not look at it again. The tables are lent, as in `classes`.
 
+use aadl::Number;
 use aadl::Quoted;
+use aadl::Span;
 use aadl::Token;
 use classes::BASED;
 use classes::BEGINS_OTHERS;
@@ -42,15 +44,15 @@ use syntax_kind::WHITESPACE;
 ghost use mathlib.Core.Path.{_≡_};
 ghost use mathlib.Core.Bool.{false, _&&_};
 ghost use mathlib.Core.List.{[], _∷_};
-ghost use Prim.Native.Nat.{_+_, _≤_};
+ghost use Prim.Native.Nat.{_+_, _-_, _≤_, _<_};
 ghost use lib.ListN.{length, drop};
 ghost use lib.Dec.{eqb};
 ghost use Rattle.aadl.specs.Kinds.{#_, WHITESPACE as WHITE, IDENT as NAME, INTEGER-LIT, STRING-LIT};
 ghost use Rattle.aadl.specs.Bytes.{run-end, is-ident-continue};
-ghost use Rattle.aadl.specs.Tokens.{token, quoted, exponent-end, radix-digit, based, mark-of, token-of};
+ghost use Rattle.aadl.specs.Tokens.{token, quoted, unbased, exponent-end, radix-digit, real, based, number-of, mark-of, token-of};
 ghost use Rattle.keywords.specs.Tables.{Lent};
 ghost use Rattle.classes.specs.Classes.{lead-table, class-table};
-ghost use Rattle.scan.specs.Inner.{number-token, single, longest};
+ghost use Rattle.scan.specs.Inner.{single, longest};
 ghost use Rattle.scan.specs.Places.{Begins, Dashes, last-gap, Bounds, Other};
 
 fn token(kind: u32, len: usize) -> Token
@@ -158,49 +160,84 @@ fn is_c_style(first: u8, d: usize, m: u8, b: u8, classes: &[u8; 256]) -> bool
     is_radix_digit(m, b, classes)
 }
 
-// A number with a base, whose inner digits begin at a place: its kind, and in the place of its length where it ends.
-fn scan_based(s: &[u8], i: usize, classes: &[u8; 256]) -> Token
-    requires { ⌜ (i ≤ length (now s)) × (now classes ≡ class-table) ⌝ }
-    ensures { λ r. ⌜ r ≡ number-token (based (now (s .entry)) i) ⌝ }
+// A number without a base, whose inner digits end at `e`.
+fn unbased(kind: u32, len: usize, e: usize, exponent: bool) -> Number
+    ensures { λ r. ⌜ r ≡ unbased kind len e exponent ⌝ }
+{
+    Number {
+        kind,
+        len,
+        base: Span { begin: 0, end: 0 },
+        inner: Span { begin: 0, end: e },
+        closed: false,
+        exponent,
+    }
+}
+
+// The real number at a place, without a base, whose digits end at `e`.
+fn scan_real(s: &[u8], at: usize, e: usize, classes: &[u8; 256]) -> Number
+    requires { ⌜ (at ≤ e) × (now classes ≡ class-table) ⌝ }
+    ensures { λ r. ⌜ r ≡ real (drop at (now (s .entry))) (e - at) ⌝ }
+{
+    let x = in_class(peek(s, e), EXPONENTS, classes);
+    unbased(REAL_LIT, exponent(s, e, classes) - at, e - at, x)
+}
+
+// The number at a place that has a base, and inner digits from `i` on.
+fn scan_based(s: &[u8], at: usize, i: usize, classes: &[u8; 256]) -> Number
+    requires { ⌜ (at < i) × (i ≤ length (now s)) × (now classes ≡ class-table) ⌝ }
+    ensures { λ r. ⌜ r ≡ based (drop at (now (s .entry))) (i - at) ⌝ }
 {
     let e = run_end(s, i, BASED, classes);
+    let closed = peek(s, e) == b'#';
     let mut f = e;
-    if peek(s, e) == b'#' {
+    if closed {
         f = e + 1;
     }
-    let end = exponent(s, f, classes);
-    if has_byte(&s[i..e], b'.') | in_class(peek(s, f), EXPONENTS, classes) {
-        return token(REAL_LIT, end);
+    let x = in_class(peek(s, f), EXPONENTS, classes);
+    let mut kind = INTEGER_LIT;
+    if has_byte(&s[i..e], b'.') | x {
+        kind = REAL_LIT;
     }
-    token(INTEGER_LIT, end)
+    Number {
+        kind,
+        len: exponent(s, f, classes) - at,
+        base: Span {
+            begin: 0,
+            end: i - 1 - at,
+        },
+        inner: Span {
+            begin: i - at,
+            end: e - at,
+        },
+        closed,
+        exponent: x,
+    }
 }
 
 // The number at a place: what stands where its digits end tells the first case that fits.
-fn scan_number(s: &[u8], at: usize, classes: &[u8; 256]) -> Token
+pub fn scan_number(s: &[u8], at: usize, classes: &[u8; 256]) -> Number
     requires { ⌜ Begins (now s) at (# INTEGER-LIT) × (now classes ≡ class-table) ⌝ }
-    ensures { λ r. ⌜ r ≡ token-of (drop at (now (s .entry))) ⌝ }
+    ensures { λ r. ⌜ r ≡ number-of (drop at (now (s .entry))) ⌝ }
 {
     let d = run_end(s, at + 1, DIGITS, classes);
     let w = window_at(s, d);
     let b = w.first;
     let c = w.second;
     if is_c_style(s[at], d - at, b, c, classes) {
-        return token(ERROR, run_end(s, at + 1, WORD, classes) - at);
+        return unbased(ERROR, run_end(s, at + 1, WORD, classes) - at, 0, false);
     }
     if b == b'#' {
-        let t = scan_based(s, d + 1, classes);
-        return token(t.kind, t.len - at);
+        return scan_based(s, at, d + 1, classes);
     }
     if (b == b'.') & !(c == b'.') {
-        return token(
-            REAL_LIT,
-            exponent(s, run_end(s, d + 1, DIGITS, classes), classes) - at,
-        );
+        return scan_real(s, at, run_end(s, d + 1, DIGITS, classes), classes);
     }
     if in_class(b, EXPONENTS, classes) {
-        return token(REAL_LIT, exponent(s, d, classes) - at);
+        return scan_real(s, at, d, classes);
     }
-    token(INTEGER_LIT, run_end(s, d, GROUPED, classes) - at)
+    let n = run_end(s, d, GROUPED, classes) - at;
+    unbased(INTEGER_LIT, n, n, false)
 }
 
 // WORDS
@@ -387,7 +424,8 @@ pub fn scan_token(
         return token(k, 1);
     }
     if k == INTEGER_LIT {
-        return scan_number(s, at, classes);
+        let n = scan_number(s, at, classes);
+        return token(n.kind, n.len);
     }
     if k == STRING_LIT {
         return scan_string(s, at);

@@ -18,6 +18,7 @@ use Rattle.aadl.specs.Limits.{Allowed}
 use Rattle.aadl.specs.Tokens.{tokens, token-word}
 use Rattle.aadl.specs.Symbols.{symbols, kinds}
 use Rattle.aadl.specs.WordKinds.{Words-told}
+use Rattle.aadl.specs.NumberParts.{Numbers-told}
 use Rattle.aadl.specs.Encoding.{event-word, room, words-for}
 use Rattle.aadl.specs.Reading.{events}
 use Rattle.aadl.specs.Answers.{Check, text-checks, section-checks, all-answered, section-answer, left-in, token-words, event-words}
@@ -28,6 +29,7 @@ use Rattle.aadl.proofs.AnswerDerived.{answer-derived}
 use Rattle.aadl.proofs.TokenText.{filled-told}
 use Rattle.aadl.proofs.WordTokens.{words-told}
 use Rattle.aadl.proofs.StringTokens.{Strings-closed, filled-closed}
+use Rattle.aadl.proofs.NumberTokens.{numbers-told}
 use Rattle.section.proofs.CleanLaws.{solid-kinds}
 
 -- What the contract of the section call says of its answer a and the token and event words ts and es, where the words old and last were lent.
@@ -100,6 +102,12 @@ module _ {limits : Limits} {text old last : List ℕ} {a : Answer} {ts es : List
   every-string-is-closed h z =
       filled-closed limits text old ts (checks limits text old last) (all-answered limits text) a (lent last (event-words limits text) es ∷ []) h refl refl refl
       (whole-answer z)
+
+  -- Each token that is a number has, by its number, the parts of its text; no other token has any.
+  pub every-number-is-told : Allowed limits → a .number ≡ 0 → Numbers-told text (a .tokens) ts
+  every-number-is-told h z =
+      filled-told (Numbers-told text) limits text old ts (checks limits text old last) (all-answered limits text) a (lent last (event-words limits text) es ∷ []) h refl refl
+      (whole-answer z) (numbers-told text)
 
   -- The test of the function `is_clean` is exact: it tells whether the answer is clean as demand 3 has it.
   pub clean-is-told : Allowed limits → a .number ≡ 0 → (is-clean a ts es ≡ true) ↔ Clean-answer text a es

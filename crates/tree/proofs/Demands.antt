@@ -15,6 +15,7 @@ use Rattle.aadl.specs.declared.TreeAnswer.{TreeAnswer}
 use Rattle.aadl.specs.declared.Limits.{Limits}
 use Rattle.aadl.specs.Limits.{Allowed}
 use Rattle.aadl.specs.WordKinds.{Words-told}
+use Rattle.aadl.specs.NumberParts.{Numbers-told}
 use Rattle.aadl.specs.Kinds.{#_, PROPERTY-SECTION}
 use Rattle.aadl.specs.Symbols.{symbols, kinds}
 use Rattle.aadl.specs.Reading.{events}
@@ -26,7 +27,7 @@ use Rattle.aadl.proofs.StringTokens.{Strings-closed}
 use Rattle.aadl.proofs.AnswerDerived.{Answered, answered-whole, told}
 use Rattle.aadl.proofs.TreeAnswers.{all-checks, six-numbers, tree-buffers, tree-answer-is-settled, tree-answered, tree-read-as-derived, records-told, tree-recorded}
 use Rattle.aadl.proofs.RecordsUpwards.{Upwards, record-at, insides, text-upwards, text-run}
-use Rattle.section.proofs.Demands.{Called, checks, buffers, every-answer-is-settled, counted-tokens, counted-events, every-word-is-told, every-string-is-closed}
+use Rattle.section.proofs.Demands.{Called, checks, buffers, every-answer-is-settled, counted-tokens, counted-events, every-word-is-told, every-string-is-closed, every-number-is-told}
 
 -- What the contract of the tree call says of its answer a and the token, event and record words ts, es and rs, where the words old, last
 -- and rows were lent.
@@ -105,6 +106,9 @@ module _ {limits : Limits} {text old last rows : List ℕ} {a : TreeAnswer} {ts 
 
     pub every-tree-string-is-closed : Allowed limits → Strings-closed text (a .answer .tokens) ts
     every-tree-string-is-closed h = every-string-is-closed section's h z
+
+    pub every-tree-number-is-told : Allowed limits → Numbers-told text (a .answer .tokens) ts
+    every-tree-number-is-told h = every-number-is-told section's h z
 
     all-told : answered-records a rs ≡ text-records limits text
     all-told = records-told limits text (length old) (length last) (length rows) a (c .answer) z rows rs (c .record-words-left)

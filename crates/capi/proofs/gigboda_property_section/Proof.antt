@@ -13,7 +13,7 @@ returns c =
     let at-call = at-tell .before .before .before .before .before .before in
     let x = at-call .before .before .before .before .before .before .before .args in
     let e = at-call .property-section .ensures in (
-      at-tell .tell .ensures ∙ ap (λ (a : Answer). told a (x .answer .now)) (e .0),
+      at-tell .tell-answer .ensures ∙ ap (λ (a : Answer). told a (x .answer .now)) (e .0),
       (e .1 .0, (e .1 .1 .0, subst (λ (a : Answer). a .number ≡ 0 → Read-as-derived (x .src .now) a (at-call .property-section .last .1 .1 .0)) (e .0) (e .1 .1 .1))),
     )
 

@@ -1,30 +1,25 @@
--- The library's call, and its answer told: five numbers, and the sixth (Telling). Assumes nothing.
-use Prim.Native.Nat.{ℕ}
-use mathlib.Core.Path.{_≡_, ap, ap₂, subst, _∙_}
-use mathlib.Core.List.{List}
-use lib.ListN.{set}
+-- The library's call, and its answer told: five numbers, and the sixth. Assumes nothing.
+use mathlib.Core.Path.{_≡_, ap, subst, _∙_}
 use borrow.Author.Needs.{needs}
 use Rattle.aadl.specs.Limits.{base}
 use Rattle.aadl.specs.Answers.{left-in, token-words, event-words}
 use Rattle.aadl.specs.Demand.{Read-as-derived}
 use Rattle.aadl.specs.Records.{record-words, Recorded}
 use Rattle.aadl.specs.declared.TreeAnswer.{TreeAnswer}
-use Rattle.capi.specs.Numbers.{told}
-use Rattle.capi.proofs.Telling.{sixth-set}
+use Rattle.capi.specs.Numbers.{tree-told}
 use Rattle.capi.proofs.gigboda_property_tree.Statement.{statement}
 use Rattle.capi.proofs.gigboda_property_tree.Tie as tie
 
 returns : tie.Need-returns
+unfolding tree-told
 returns c =
-    let at-put = c .before .before in
-    let at-tell = at-put .before .before .before .before in
-    let at-call = at-tell .before .before .before .before .before .before .before .before in
+    let at-tell = c .before .before in
+    let at-call = at-tell .before .before .before .before .before .before .before .before .before .before .before in
     let x = at-call .before .before .before .before .before .before .before .before .before .args in
     let text = x .src .now in
     let e = at-call .property-tree .ensures in
     let left = at-call .property-tree .last in
-    let five = at-tell .tell .ensures ∙ ap (λ (a : TreeAnswer). told (a .answer) (x .answer .now)) (e .0) in
-    let six = at-put .put .ensures ∙ ap₂ (λ (l : List ℕ) (a : TreeAnswer). set l 5 (a .records)) five (e .0) ∙ sixth-set _ (x .answer .now) in
+    let six = at-tell .tell .ensures ∙ ap (λ (a : TreeAnswer). tree-told a (x .answer .now)) (e .0) in
     let tokens = e .1 .0 ∙ ap (λ (a : TreeAnswer). left-in (a .answer) (token-words text) (x .tokens .now)) (e .0) in
     let events = e .1 .1 .0 ∙ ap (λ (a : TreeAnswer). left-in (a .answer) (event-words base text) (x .events .now)) (e .0) in
     let records = e .1 .1 .1 .0 ∙ ap (λ (a : TreeAnswer). left-in (a .answer) (record-words base text) (x .records .now)) (e .0) in
@@ -35,4 +30,4 @@ returns c =
 pub gigboda-property-tree-spec : {M : Type 1} → statement M
 gigboda-property-tree-spec =
     tie.close
-    (tie.spec (λ c κs. search needs) (λ c κs. search needs) (λ c κs. search needs) (λ c. search needs) (λ c. search needs) (λ c. search needs) (λ c. search needs) returns)
+    (tie.spec (λ c κs. search needs) (λ c. search needs) (λ c. search needs) (λ c κs. search needs) (λ c. search needs) (λ c. search needs) (λ c. search needs) (λ c. search needs) returns)

@@ -14,7 +14,7 @@ returns c =
     let at-tokenize = at-tell .before .before .before .before in
     let x = at-tokenize .before .before .before .before .before .args in
     let e = at-tokenize .tokenize .ensures in (
-      at-tell .tell .ensures ∙ ap (λ (a : Answer). told a (x .answer .now)) (e .0),
+      at-tell .tell-answer .ensures ∙ ap (λ (a : Answer). told a (x .answer .now)) (e .0),
       (
         e .1 .0 ∙ ap (λ (a : Answer). left-in a (token-words (x .src .now)) (x .tokens .now)) (e .0),
         subst (λ (a : Answer). a .number ≡ 0 → Words-told (x .src .now) (a .tokens) (at-tokenize .tokenize .last .1 .0)) (e .0) (e .1 .1),

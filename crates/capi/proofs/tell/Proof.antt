@@ -1,28 +1,58 @@
--- The five numbers one after another (Telling). Assumes nothing.
-use Prim.Native.Nat.{ℕ}
-use mathlib.Core.Path.{ap, _∙_}
+-- Before `i` the numbers are written, as far as they are lent (Telling). The measure is what is left of them. Assumes nothing.
+use Prim.Native.Nat.{ℕ, _-_, _≤_}
+use native.Mathlib.Omega.{arith}
+use native.Mathlib.Numerals.{add-one}
+use mathlib.Core.Path.{_≡_, refl, ap, _∙_}
 use mathlib.Core.List.{List}
-use lib.ListN.{set}
+use lib.ListN.{length, getD, take, set}
+use lib.Seq.{take-all}
+use Rattle.lexer.specs.Filling.{write}
+use Rattle.capi.proofs.Telling.{write-long, write-more, write-most}
 use borrow.Author.Needs.{needs}
-use Rattle.capi.proofs.Telling.{five-set}
 use Rattle.capi.proofs.tell.Statement.{statement}
 use Rattle.capi.proofs.tell.Tie as tie
 
-returns : tie.Need-returns
+abbrev Inv-loop : tie.InvT-loop
+Inv-loop lent₀ numbers i₀ lent i = (lent ≡ write (take i numbers) lent₀) × (i ≤ length numbers)
+
+abbrev μ-loop : tie.MeasureT-loop
+μ-loop lent₀ numbers i₀ lent i = length numbers - i
+
+loop-holds : tie.Need-loop-holds Inv-loop μ-loop
+loop-holds c = (refl, omega arith)
+
+same-length : tie.Need-same-length Inv-loop μ-loop
+same-length c =
+    let a = c .before .before .before .args in
+    let l = c .before .before .loop in
+    ap length (l .inv .0) ∙ write-long (take (l .i) (a .numbers .now)) (a .lent .now)
+
+returns : tie.Need-returns Inv-loop μ-loop
 returns c =
-    let at-put5 = c .before .before in
-    let at-put4 = at-put5 .before .before .before .before in
-    let at-put3 = at-put4 .before .before .before .before in
-    let at-put2 = at-put3 .before .before .before .before in
-    let at-put = at-put2 .before .before .before .before in
-    let x = at-put .before .before .before .before .args in
-    let a = x .a in
-    let w2 = at-put2 .put2 .ensures ∙ ap (λ (l : List ℕ). set l 1 (a .place)) (at-put .put .ensures) in
-    let w3 = at-put3 .put3 .ensures ∙ ap (λ (l : List ℕ). set l 2 (a .tokens)) w2 in
-    let w4 = at-put4 .put4 .ensures ∙ ap (λ (l : List ℕ). set l 3 (a .taken)) w3 in
-    at-put5 .put5 .ensures ∙ ap (λ (l : List ℕ). set l 4 (a .events)) w4 ∙ five-set a (x .numbers .now)
+    let a = c .before .before .before .args in
+    let l = c .before .before .loop in
+    l .inv .0 ∙ write-most (a .numbers .now) (a .lent .now) (l .i) (omega (arith, c .if1 .taken, ap length (l .inv .0), write-long (take (l .i) (a .numbers .now)) (a .lent .now)))
+
+loop-again : tie.Need-loop-again Inv-loop μ-loop
+loop-again c =
+    let a = c .before .before .before .before .args in
+    let l = c .before .before .before .loop in
+    (rw (add-one (l .i)) (ap (λ (ns : List ℕ). set ns (l .i) (getD (a .numbers .now) (l .i) 0)) (l .inv .0) ∙ write-more (a .numbers .now) (a .lent .now) (l .i) (omega arith)), omega arith)
+
+same-length-2 : tie.Need-same-length-2 Inv-loop μ-loop
+same-length-2 c =
+    let a = c .before .before .args in
+    let l = c .before .loop in
+    ap length (l .inv .0) ∙ write-long (take (l .i) (a .numbers .now)) (a .lent .now)
+
+returns-2 : tie.Need-returns-2 Inv-loop μ-loop
+returns-2 c =
+    let a = c .before .before .args in
+    let l = c .before .loop in
+    l .inv .0 ∙ ap (λ (ns : List ℕ). write ns (a .lent .now)) (take-all (l .i) (a .numbers .now) (omega arith))
 
 pub tell-spec : {M : Type 1} → statement M
 tell-spec =
     tie.close
-    (tie.spec (λ c. search needs) (λ c κs. search needs) (λ c κs. search needs) (λ c κs. search needs) (λ c κs. search needs) (λ c κs. search needs) (λ c. search needs) returns)
+    (tie.spec Inv-loop μ-loop loop-holds same-length returns (λ c. search needs) (λ c. search needs) (λ c. search needs) (λ c. search needs) (λ c. search needs) (λ c. search needs) loop-again
+    same-length-2 returns-2)

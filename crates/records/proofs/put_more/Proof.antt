@@ -12,10 +12,12 @@ use Rattle.records.proofs.put_more.Tie as tie
 returns : tie.Need-returns
 unfolding more-lines
 returns c =
-    let at-left = c .before .before in
-    let at-rest = at-left .before in
-    let at-line = at-rest .before .before .before .before in
-    wrote-then (at-line .put-line .ensures) (wrote-same (at-left .put-left .ensures) (ap (λ (n : ℕ). line (bytes "left") (n ∷ [])) (at-rest .rest-of .ensures)))
+    let at-row = c .before .before in
+    let at-rest = at-row .before .before .before .before in
+    let at-line = at-rest .before .before .before in
+    wrote-then (at-line .put-line .ensures) (wrote-same (at-row .put-row .ensures) (ap (λ (n : ℕ). line (bytes "left") (n ∷ [])) (at-rest .rest-of .ensures)))
 
 pub put-more-spec : {M : Type 1} → statement M
-put-more-spec = tie.close (tie.spec (λ c. search needs) (λ c κs. search needs) (λ c κs. search needs) (λ c κs. search needs) (λ c. search needs) returns)
+put-more-spec =
+    tie.close
+    (tie.spec (λ c. search needs) (λ c κs. search needs) (λ c κs. search needs) (λ c. search needs) (λ c. search needs) (λ c κs. search needs) (λ c. search needs) returns)

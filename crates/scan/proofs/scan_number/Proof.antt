@@ -9,16 +9,14 @@ use lib.ListN.{length, drop}
 use lib.Dec.{eqb}
 use borrow.Author.Tests.{eq-eqb, ne-eqb}
 use Rattle.predictive.proofs.Tests.{and-l}
-use Rattle.aadl.specs.declared.Token.{Token}
 use Rattle.aadl.specs.Bytes.{is-digit, is-ident-continue, is-grouped}
-use Rattle.aadl.specs.Tokens.{exponent-end, radix-digit, number-from, number-of, token-of}
+use Rattle.aadl.specs.Tokens.{radix-digit, number-from, number-of}
 use Rattle.aadl.proofs.RunLaws.{run-end-from}
-use Rattle.aadl.proofs.TokenBounds.{inside, exponent-end-upto, based-upto, decimals-upto}
+use Rattle.aadl.proofs.TokenBounds.{inside}
 use Rattle.cursor.specs.declared.Window.{Window}
 use Rattle.classes.specs.Classes.{member}
-use Rattle.scan.specs.Inner.{number-token}
-use Rattle.scan.proofs.FirstByte.{first-byte, digits-token, digit-run, word-run}
-use Rattle.scan.proofs.NumberCases.{Digits, number, c-style, c-style-number, based-number, dotted-number, exponent-number, plain-number}
+use Rattle.scan.proofs.FirstByte.{first-byte, digit-run, word-run}
+use Rattle.scan.proofs.NumberCases.{Digits, whole, c-style-test, c-style-number, based-number, dotted-number, exponent-number, plain-number}
 use borrow.Author.Needs.{needs}
 use Rattle.scan.proofs.scan_number.Statement.{statement}
 use Rattle.scan.proofs.scan_number.Tie as tie
@@ -49,18 +47,17 @@ digits q =
 stands : (q : tie.After-is-c-style) (p : ℕ → Bool) → p 0 ≡ false → p (window q .first) ≡ true → end q + 1 ≤ length (text q)
 stands q p z e = omega (arith, inside p z (text q) (end q) (ap p (sym (digits q .here)) ∙ e))
 
-tested : (q : tie.After-is-c-style) → c-style (digits q) ≡ q .is-c-style .result
+tested : (q : tie.After-is-c-style) → c-style-test (digits q) ≡ q .is-c-style .result
 tested q =
     let h = q .before .before .before .before .before .pre .0 in
     ap (λ (b : ℕ). (eqb (end q - at q) 1 && eqb b 48) && radix-digit (window q .first) (window q .second)) (sym (first-byte (text q) (at q) _ h)) ∙ sym (q .is-c-style .ensures)
 
--- the number that so many digits begin is the token
-whole : (q : tie.After-is-c-style) → number (digits q) ≡ token-of (drop (at q) (text q))
+-- the number that so many digits begin
+counted : (q : tie.After-is-c-style) → whole (digits q) ≡ number-of (drop (at q) (text q))
 unfolding number-of member
-whole q =
+counted q =
     let h = q .before .before .before .before .before .pre .0 in
-    let count = ap (λ (e : ℕ). e - at q) (q .before .before .before .run-end .ensures .0) ∙ digit-run (text q) (at q) h in
-    ap (λ (n : ℕ). number-token (number-from (drop (at q) (text q)) n)) count ∙ digits-token (text q) (at q) h
+    ap (number-from (drop (at q) (text q))) (ap (λ (e : ℕ). e - at q) (q .before .before .before .run-end .ensures .0) ∙ digit-run (text q) (at q) h)
 
 returns : tie.Need-returns
 unfolding member
@@ -69,52 +66,62 @@ returns c =
     let h = q .before .before .before .before .before .pre .0 in
     let r = c .before .run-end2 in
     let e = ap (λ (e : ℕ). e - at q) (r .ensures .0) ∙ word-run (text q) (at q) _ h refl in
-    c .token .ensures
-    ∙ c-style-number (digits q) (tested q ∙ c .before .before .if1 .taken) (r .result - at q) e
-    ∙ whole q
+    c .unbased .ensures ∙ c-style-number (digits q) (tested q ∙ c .before .before .if1 .taken) (r .result - at q) e ∙ counted q
 
 hash : (q : tie.Then2) → end (q .before .before) + 1 ≤ length (text (q .before .before))
 hash q = stands (q .before .before) (λ (b : ℕ). eqb b 35) refl (eq-eqb _ 35 (q .if2 .taken))
 
+based : tie.Need-scan-based-requires
+based c κs =
+    let q = c .before .before in
+    (omega (arith, end-from q), hash c, q .before .before .before .before .before .pre .1)
+
 returns-2 : tie.Need-returns-2
 returns-2 c =
-    let q2 = c .before .before .before in
+    let q2 = c .before in
     let q1 = q2 .before in
     let q = q1 .before in
-    let b = c .before .before .scan-based in
-    c .token2 .ensures
-    ∙ based-number (digits q) (tested q ∙ q1 .if1 .left) (eq-eqb _ 35 (q2 .if2 .taken)) (b .result) (b .ensures)
-    ∙ whole q
+    c .scan-based .ensures ∙ based-number (digits q) (tested q ∙ q1 .if1 .left) (eq-eqb _ 35 (q2 .if2 .taken)) ∙ counted q
 
 point : (q : tie.Then3) → end (q .before .before .before) + 1 ≤ length (text (q .before .before .before))
 point q =
     let w = window (q .before .before .before) in
     stands (q .before .before .before) (λ (b : ℕ). eqb b 46) refl (and-l (eqb (w .first) 46) (not (eqb (w .second) 46)) (q .if3 .taken))
 
+dotted : tie.Need-scan-real-requires
+unfolding member
+dotted c κs =
+    let q = c .before .before .before .before in
+    (omega (arith, c .run-end3 .ensures .0, run-end-from is-digit (text q) (end q + 1), end-from q), q .before .before .before .before .before .pre .1)
+
 returns-3 : tie.Need-returns-3
 unfolding member
 returns-3 c =
-    let q3 = c .before .before .before in
+    let q3 = c .before .before in
     let q2 = q3 .before in
     let q1 = q2 .before in
     let q = q1 .before in
-    let e = c .before .exponent in
-    c .token3 .ensures
-    ∙ dotted-number (digits q) (tested q ∙ q1 .if1 .left) (ne-eqb _ 35 (q2 .if2 .left)) (q3 .if3 .taken) (e .result) (e .ensures ∙ ap (exponent-end (text q)) (c .before .before .run-end3 .ensures .0))
-    ∙ whole q
+    let e = c .before .run-end3 in
+    c .scan-real .ensures
+    ∙ dotted-number (digits q) (tested q ∙ q1 .if1 .left) (ne-eqb _ 35 (q2 .if2 .left)) (q3 .if3 .taken) (e .result) (e .ensures .0)
+    ∙ counted q
+
+exponent : tie.Need-scan-real-requires-2
+exponent c κs =
+    let q = c .before .before .before .before .before in
+    (omega (arith, end-from q), q .before .before .before .before .before .pre .1)
 
 returns-4 : tie.Need-returns-4
 unfolding member
 returns-4 c =
-    let q4 = c .before .before in
+    let q4 = c .before in
     let q3 = q4 .before .before in
     let q2 = q3 .before in
     let q1 = q2 .before in
     let q = q1 .before in
-    let e = c .before .exponent2 in
-    c .token4 .ensures
-    ∙ exponent-number (digits q) (tested q ∙ q1 .if1 .left) (ne-eqb _ 35 (q2 .if2 .left)) (q3 .if3 .left) (sym (q4 .before .in-class .ensures) ∙ q4 .if4 .taken) (e .result) (e .ensures)
-    ∙ whole q
+    c .scan-real2 .ensures
+    ∙ exponent-number (digits q) (tested q ∙ q1 .if1 .left) (ne-eqb _ 35 (q2 .if2 .left)) (q3 .if3 .left) (sym (q4 .before .in-class .ensures) ∙ q4 .if4 .taken)
+    ∙ counted q
 
 returns-5 : tie.Need-returns-5
 unfolding member
@@ -125,9 +132,9 @@ returns-5 c =
     let q1 = q2 .before in
     let q = q1 .before in
     let e = c .before .run-end4 in
-    c .token5 .ensures
+    c .unbased2 .ensures
     ∙ plain-number (digits q) (tested q ∙ q1 .if1 .left) (ne-eqb _ 35 (q2 .if2 .left)) (q3 .if3 .left) (sym (q4 .before .in-class .ensures) ∙ q4 .if4 .left) (e .result) (e .ensures .0)
-    ∙ whole q
+    ∙ counted q
 
 pub scan-number-spec : {M : Type 1} → statement M
 unfolding member
@@ -136,11 +143,6 @@ scan-number-spec =
     (tie.spec (λ c. search needs) (λ c κs. search needs) (λ c κs. search needs) (λ c. search needs)
     (λ c. let a = c .before .before .before .before .args in omega (arith, c .before .before .run-end .ensures .0, run-end-from is-digit (a .s .now) (a .at + 1))) (λ c κs. search needs)
     (λ c. search needs) (λ c κs. search needs) (λ c. let q = c .before .before in omega (arith, c .run-end2 .ensures .0, run-end-from is-ident-continue (text q) (at q + 1))) (λ c κs. search needs)
-    returns (λ c. omega (arith, hash c)) (λ c κs. (hash c, c .before .before .before .before .before .before .before .pre .1))
-    (λ c. let q = c .before .before .before .before in omega (arith, ap (λ (t : Token). t .len) (c .before .scan-based .ensures), based-upto (text q) (end q + 1) .from, end-from q))
-    (λ c κs. search needs) returns-2 (λ c. omega (arith, point c)) (λ c κs. search needs) (λ c κs. search needs)
-    (λ c. let q = c .before .before .before .before .before in omega (arith, c .exponent .ensures ∙ ap (exponent-end (text q)) (c .before .run-end3 .ensures .0), decimals-upto (text q) (end q + 1) .from, end-from q))
-    (λ c κs. search needs) returns-3 (λ c κs. search needs) (λ c κs. search needs)
-    (λ c. let q = c .before .before .before .before .before .before in omega (arith, c .exponent2 .ensures, exponent-end-upto (text q) (end q) .from, end-from q)) (λ c κs. search needs) returns-4
+    returns (λ c. omega (arith, hash c)) based returns-2 (λ c. omega (arith, point c)) (λ c κs. search needs) dotted returns-3 (λ c κs. search needs) exponent returns-4
     (λ c κs. search needs) (λ c. let q = c .before .before .before .before .before .before in omega (arith, c .run-end4 .ensures .0, run-end-from is-grouped (text q) (end q), end-from q))
     (λ c κs. search needs) returns-5)

@@ -1,9 +1,11 @@
 -- The first byte says which scanner the token is for (`begins`); a mark that no other begins with is told by it alone. Assumes nothing.
 use Prim.Native.Nat.{ℕ}
-use mathlib.Core.Path.{_≡_, refl, sym, _∙_}
+use mathlib.Core.Path.{_≡_, refl, sym, ap, _∙_}
 use native.Mathlib.Omega.{arith}
 use borrow.Author.Tests.{ne-eqb}
+use Rattle.aadl.specs.Tokens.{number-lit}
 use Rattle.scan.specs.Places.{Begins}
+use Rattle.scan.proofs.FirstByte.{digits-token}
 use Rattle.scan.proofs.Marks.{lone-token}
 use borrow.Author.Needs.{needs}
 use Rattle.scan.proofs.scan_token.Statement.{statement}
@@ -28,6 +30,13 @@ mark c =
 number : tie.Need-scan-number-requires
 number c κs = let p = c .before .before .before .before .before .before .before .pre in (begins (c .before .before .before .before) _ (c .if4 .taken), p .3)
 
+-- of the number its token keeps kind and length
+number-token : tie.Need-returns-4
+number-token c =
+    let q4 = c .before .before in
+    let a = q4 .before .before .before .before .before .before .before .args in
+    c .token2 .ensures ∙ ap number-lit (c .before .scan-number .ensures) ∙ digits-token (a .s .now) (a .at) (begins (q4 .before .before .before .before) _ (q4 .if4 .taken))
+
 string : tie.Need-scan-string-requires
 string c κs = begins (c .before .before .before .before .before) _ (c .if5 .taken)
 
@@ -49,4 +58,4 @@ pub scan-token-spec : {M : Type 1} → statement M
 scan-token-spec =
     tie.close
     (tie.spec (λ c. search needs) (λ c κs. c .before .before .pre .2) word (λ c. c .scan-ident-or-keyword .ensures) white (λ c. c .scan-whitespace .ensures) (λ c κs. search needs) mark number
-    (λ c. c .scan-number .ensures) string (λ c. c .scan-string .ensures) other (λ c. c .scan-mark .ensures))
+    (λ c κs. search needs) number-token string (λ c. c .scan-string .ensures) other (λ c. c .scan-mark .ensures))
