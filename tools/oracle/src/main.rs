@@ -1,9 +1,11 @@
-//! The oracle: for each record of standard input the lines that 01 asks for, from the given Rust. The Rust has no limits, no refusals
-//! and no tree call; this program puts them around it. tools/README.md says what a record is and what is written for one.
+//! The oracle: for each record of standard input the lines that 01 asks for, from the given Rust. The Rust has no limits, no refusals,
+//! no tree call and no parts of numbers; this program puts them around it. tools/README.md says what a record is and what is written for one.
+mod parts;
 mod records;
 mod tree;
 
-use records::{next, write_record, Next, Reading, Record, Refusal, RECORD};
+use parts::parts;
+use records::{next, write_record, write_words, Call, Next, Reading, Record, Refusal, RECORD};
 use spar::event::Event;
 use spar::lexer::tokenize;
 use spar::parser::Parser;
@@ -107,6 +109,11 @@ fn limits(events: &[Event], lent: usize, starts: &[usize]) -> Result<usize, Refu
     Ok(taken)
 }
 
+/// Where the token with a number starts.
+fn start(tokens: &[Token], number: usize) -> usize {
+    tokens[..number].iter().map(|t| t.1).sum()
+}
+
 /// The tokens of a text, or one of the refusals 1 to 3 and 8.
 fn tokens(record: &Record) -> Result<(&str, Vec<Token>), Refusal> {
     if record.text.len() > MOST_BYTES {
@@ -115,8 +122,7 @@ fn tokens(record: &Record) -> Result<(&str, Vec<Token>), Refusal> {
     let text = std::str::from_utf8(&record.text).map_err(|e| Refusal(2, e.valid_up_to()))?;
     let tokens = tokenize(text);
     if tokens.len() > record.tokens {
-        let place = tokens[..record.tokens].iter().map(|t| t.1).sum();
-        return Err(Refusal(3, place));
+        return Err(Refusal(3, start(&tokens, record.tokens)));
     }
     if let Some(place) = unclosed(text, &tokens, SyntaxKind::STRING_LIT) {
         return Err(Refusal(8, place));
@@ -140,8 +146,8 @@ fn places(tokens: &[Token]) -> (Option<SyntaxKind>, Vec<usize>) {
     (first, starts)
 }
 
-/// A section: how many tokens it takes, its events, and for the tree call its nodes; or one of the refusals 4 to 7.
-fn section(record: &Record, text: &str, tokens: &[Token], lent: usize) -> Result<(usize, Vec<Event>, Vec<Node>), Refusal> {
+/// A section: how many tokens it takes, its events, and where record words are lent its nodes; or one of the refusals 4 to 7.
+fn section(text: &str, tokens: &[Token], lent: usize, records: Option<usize>) -> Result<(usize, Vec<Event>, Vec<Node>), Refusal> {
     let (first, starts) = places(tokens);
     if first != Some(SyntaxKind::PROPERTIES_KW) {
         return Err(Refusal(4, starts[0]));
@@ -150,7 +156,7 @@ fn section(record: &Record, text: &str, tokens: &[Token], lent: usize) -> Result
     parser.run_property_section();
     let events = parser.finish();
     let taken = limits(&events, lent, &starts)?;
-    let Some(words) = record.records else { return Ok((taken, events, Vec::new())) };
+    let Some(words) = records else { return Ok((taken, events, Vec::new())) };
     let nodes = nodes(events.clone());
     match nodes.get(words / RECORD) {
         Some(node) => Err(Refusal(7, starts[node.first])),
@@ -160,9 +166,10 @@ fn section(record: &Record, text: &str, tokens: &[Token], lent: usize) -> Result
 
 fn call(record: &Record, messages: &Messages) -> Result<Reading, Refusal> {
     let (text, tokens) = tokens(record)?;
-    let (taken, events, nodes) = match record.events {
-        None => (0, Vec::new(), Vec::new()),
-        Some(lent) => section(record, text, &tokens, lent)?,
+    let (taken, events, nodes) = match record.call {
+        Call::Section { events } => section(text, &tokens, events, None)?,
+        Call::Tree { events, records } => section(text, &tokens, events, Some(records))?,
+        _ => (0, Vec::new(), Vec::new()),
     };
     Ok(Reading {
         tokens: tokens.iter().map(|(kind, len)| *kind as u32 * 65_536 + *len as u32).collect(),
@@ -170,6 +177,21 @@ fn call(record: &Record, messages: &Messages) -> Result<Reading, Refusal> {
         events: events.iter().map(|e| event_word(e, messages)).collect(),
         records: nodes.iter().flat_map(Node::words).collect(),
     })
+}
+
+/// The parts of the token with a number: zeros if there is none, or if the text is refused, since no token has a word then.
+fn parts_by_number(record: &Record, number: usize) -> [u32; 8] {
+    let Ok((text, tokens)) = tokens(record) else { return [0; 8] };
+    let Some((kind, len)) = tokens.get(number) else { return [0; 8] };
+    let start = start(&tokens, number);
+    parts(*kind, &text[start..start + len])
+}
+
+fn write_answer(lines: &mut Vec<u8>, record: &Record, messages: &Messages) {
+    match record.call {
+        Call::Parts { token } => write_words(lines, "parts", &parts_by_number(record, token as usize)),
+        _ => write_record(lines, record, call(record, messages)),
+    }
 }
 
 fn answer_all() -> io::Result<()> {
@@ -186,8 +208,7 @@ fn answer_all() -> io::Result<()> {
                 break;
             }
             Next::Record(record) => {
-                let answer = call(&record, &messages);
-                write_record(&mut lines, &record, answer);
+                write_answer(&mut lines, &record, &messages);
                 output.write_all(&lines)?;
             }
         }

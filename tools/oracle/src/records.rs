@@ -1,8 +1,9 @@
 //! Records as tools/README.md has them: how one is read, and what is written for its answer.
 use std::io::{ErrorKind, Read};
 
-/// A record's limits; those of the record words are four times as high.
+/// A record's limits; that of the record words is four times as high.
 const MOST_IN_RECORD: u32 = 40_000;
+const MOST_RECORD_WORDS: u32 = RECORD as u32 * MOST_IN_RECORD;
 
 /// The words of a record of the tree call.
 pub const RECORD: usize = 4;
@@ -10,13 +11,18 @@ pub const RECORD: usize = 4;
 /// In the place of a number: the extended form, the largest settings, no event words.
 const NONE: u32 = u32::MAX;
 
+/// The call that a record asks for, with the words that it lends besides token words, or the number of the token that it asks about.
+pub enum Call {
+    Tokens,
+    Section { events: usize },
+    Tree { events: usize, records: usize },
+    Parts { token: u32 },
+}
+
 pub struct Record {
     pub text: Vec<u8>,
     pub tokens: usize,
-    /// None for the tokens-only call.
-    pub events: Option<usize>,
-    /// Lent record words; None but for the tree call.
-    pub records: Option<usize>,
+    pub call: Call,
 }
 
 pub enum Next {
@@ -37,7 +43,7 @@ pub struct Reading {
     pub records: Vec<u32>,
 }
 
-fn write_words(out: &mut Vec<u8>, name: &str, words: &[u32]) {
+pub fn write_words(out: &mut Vec<u8>, name: &str, words: &[u32]) {
     out.extend_from_slice(name.as_bytes());
     for w in words {
         out.push(b' ');
@@ -68,14 +74,19 @@ pub fn write_record(out: &mut Vec<u8>, record: &Record, answer: Result<Reading, 
         Err(refusal) => (refusal, Reading::default()),
     };
     let rest = |lent: usize, words: &[u32]| (lent - words.len()) as u32;
-    let added = record.records.map(|_| read.records.len() / RECORD);
+    let (events, records) = match record.call {
+        Call::Section { events } => (events, None),
+        Call::Tree { events, records } => (events, Some(records)),
+        _ => (0, None),
+    };
+    let added = records.map(|_| read.records.len() / RECORD);
     let counts = [place, read.tokens.len(), read.taken, read.events.len()];
     let numbers: Vec<u32> = counts.into_iter().chain(added).map(|n| n as u32).collect();
     write_words(out, "answer", &[&[number], &numbers[..]].concat());
     write_words(out, "tokens", &read.tokens);
     write_words(out, "events", &read.events);
-    write_words(out, "rest", &[rest(record.tokens, &read.tokens), rest(record.events.unwrap_or(0), &read.events)]);
-    if let Some(lent) = record.records {
+    write_words(out, "rest", &[rest(record.tokens, &read.tokens), rest(events, &read.events)]);
+    if let Some(lent) = records {
         write_words(out, "more", &read.records);
         write_words(out, "left", &[rest(lent, &read.records)]);
     }
@@ -104,36 +115,43 @@ fn numbers<const N: usize>(input: &mut impl Read) -> Result<[u32; N], usize> {
     }
 }
 
-/// A record's text behind its numbers: bytes, lent token words, lent event words, the tree call's lent record words.
-fn record(input: &mut impl Read, [length, tokens, events]: [u32; 3], records: Option<u32>) -> Next {
-    let long = |n: u32| n > MOST_IN_RECORD;
-    let many = records.is_some_and(|n| n > MOST_IN_RECORD * RECORD as u32);
-    if long(length) || long(tokens) || (events != NONE && long(events)) || many {
-        return Next::Bad;
+/// A number that is not over its limit.
+fn within(number: u32, most: u32) -> Option<usize> {
+    (number <= most).then_some(number as usize)
+}
+
+/// The call by its number in a record, with the record's settings, the lent event words and the call's own number.
+fn call(number: u32, settings: u32, events: u32, own: u32) -> Option<Call> {
+    let lent = if events == NONE { None } else { Some(within(events, MOST_IN_RECORD)?) };
+    match (number, settings, own) {
+        (0, NONE, 0) => Some(lent.map_or(Call::Tokens, |events| Call::Section { events })),
+        (1, NONE, _) => Some(Call::Tree { events: lent.unwrap_or(0), records: within(own, MOST_RECORD_WORDS)? }),
+        (5, NONE, _) => Some(Call::Parts { token: own }),
+        _ => None,
     }
-    let mut text = vec![0; length as usize];
-    if read_full(input, &mut text) < text.len() {
-        return Next::Bad;
-    }
-    let events = match (events, records) {
-        (NONE, None) => None,
-        (NONE, Some(_)) => Some(0),
-        (n, _) => Some(n as usize),
+}
+
+/// A record whose numbers are read, with its text.
+fn record(input: &mut impl Read, length: u32, tokens: u32, call: Call) -> Option<Record> {
+    let mut text = vec![0; within(length, MOST_IN_RECORD)?];
+    let tokens = within(tokens, MOST_IN_RECORD)?;
+    (read_full(input, &mut text) == text.len()).then_some(Record { text, tokens, call })
+}
+
+/// The rest of a record behind its first three numbers.
+fn behind(input: &mut impl Read, first: [u32; 3]) -> Option<Record> {
+    let [NONE, number, settings] = first else {
+        let [length, tokens, events] = first;
+        return record(input, length, tokens, call(0, NONE, events, 0)?);
     };
-    Next::Record(Record { text, tokens: tokens as usize, events, records: records.map(|n| n as usize) })
+    let [length, tokens, events, own] = numbers(input).ok()?;
+    record(input, length, tokens, call(number, settings, events, own)?)
 }
 
 pub fn next(input: &mut impl Read) -> Next {
-    let first = match numbers::<3>(input) {
-        Ok(first) => first,
-        Err(0) => return Next::End,
-        Err(_) => return Next::Bad,
-    };
-    let [NONE, call, settings] = first else { return record(input, first, None) };
-    let Ok([length, tokens, events, own]) = numbers(input) else { return Next::Bad };
-    match (call, settings, own) {
-        (0, NONE, 0) => record(input, [length, tokens, events], None),
-        (1, NONE, _) => record(input, [length, tokens, events], Some(own)),
-        _ => Next::Bad,
+    match numbers(input) {
+        Ok(first) => behind(input, first).map_or(Next::Bad, Next::Record),
+        Err(0) => Next::End,
+        Err(_) => Next::Bad,
     }
 }
