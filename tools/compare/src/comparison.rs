@@ -1,22 +1,47 @@
 //! A run of both programs on many records: counts, and the first record on which they differ.
-use crate::programs::{answer, groups, Form, Pair, Record, TOKENS_ONLY};
+use crate::programs::{answer, groups, parts, Form, Pair, Record, TOKENS_ONLY};
 use crate::source::{Call, Source};
 use std::time::Instant;
 use texts::families::Maker;
 
+/// What is counted of the oracle's answers: their numbers, or of the parts of a number its kind and which of them it has.
+const ANSWERS: [&str; 9] = ["read", "no. 1", "no. 2", "no. 3", "no. 4", "no. 5", "no. 6", "no. 7", "no. 8"];
+const PARTS: [&str; 7] = ["integer", "real", "C-style", "none", "based", "closed", "exponent"];
+
+/// The kinds in lines `parts`.
+const NONE: usize = 0;
+const ERROR: usize = 2;
+const INTEGER_LIT: usize = 30;
+const REAL_LIT: usize = 31;
+
 #[derive(Default, Clone)]
 struct Count {
     texts: u64,
-    answers: [u64; 9],
+    told: [u64; ANSWERS.len()],
     differences: u64,
+}
+
+/// Where in its list a record's answer is counted.
+fn told(group: &[u8]) -> Vec<usize> {
+    if let Some([number, ..]) = answer(group) {
+        return vec![number.min(8)];
+    }
+    let Some([kind, _, _, base_end, _, _, closed, exponent]) = parts(group) else { return Vec::new() };
+    let told: [bool; PARTS.len()] =
+        [kind == INTEGER_LIT, kind == REAL_LIT, kind == ERROR, kind == NONE, base_end > 0, closed > 0, exponent > 0];
+    (0..PARTS.len()).filter(|at| told[*at]).collect()
 }
 
 fn show(pair: &Pair, names: &[&str], record: &Record) {
     let (theirs, ours) = pair.run(std::slice::from_ref(record));
     let events = if record.events == TOKENS_ONLY { "tokens only".to_string() } else { format!("{} event words", record.events) };
     println!("family: {}", names[record.family]);
-    let records = if let Form::Tree(words) = record.form { format!(", {words} record words") } else { String::new() };
-    println!("text: \"{}\" ({} bytes), {} token words, {}{}", record.text.escape_ascii(), record.text.len(), record.tokens, events, records);
+    let own = match record.form {
+        Form::Tree(words) => format!(", {words} record words"),
+        Form::Parts(number) => format!(", token {number}"),
+        Form::Plain | Form::Extended => String::new(),
+    };
+    println!("text: \"{}\" ({} bytes), {} token words, {}{}", record.text.escape_ascii(), record.text.len(), record.tokens, events, own);
     println!("oracle:\n{}replay:\n{}", String::from_utf8_lossy(&theirs), String::from_utf8_lossy(&ours));
 }
 
@@ -31,22 +56,29 @@ fn differences(pair: &Pair, records: &[Record], theirs: &[&[u8]], ours: &[&[u8]]
     found
 }
 
+/// A line of the report: what it is about, its columns, and a note behind them.
+fn line(name: &str, cells: impl Iterator<Item = String>, note: &str) {
+    let cells: String = cells.map(|cell| format!("{cell:>9}")).collect();
+    println!("{name:<22}{cells}{note}");
+}
+
+/// How many texts a family has that gives each once.
+fn note(source: &Source, family: usize) -> String {
+    match source.families.get(family).map(|f| &f.maker) {
+        Some(Maker::Every(e)) if e.left() == 0 => " (all)".to_string(),
+        Some(Maker::Every(e)) => format!(" (of {})", e.total()),
+        _ => String::new(),
+    }
+}
+
 fn report(source: &Source, counts: &[Count]) {
-    let line = |name: &str, numbers: [String; 11], note: &str| {
-        let numbers: String = numbers.iter().map(|n| format!("{:>9}", n)).collect();
-        println!("{:<22}{}{}", name, numbers, note);
-    };
-    line("family", ["texts", "read", "no. 1", "no. 2", "no. 3", "no. 4", "no. 5", "no. 6", "no. 7", "no. 8", "differ"].map(String::from), "");
+    let columns: &[&str] = if source.call == Call::Parts { &PARTS } else { &ANSWERS };
+    line("family", ["texts"].iter().chain(columns).chain(&["differ"]).map(|name| name.to_string()), "");
     let mut sum = Count::default();
-    for (i, count) in counts.iter().enumerate() {
-        let [read, a, b, c, d, e, f, g, h] = count.answers;
-        let every = match source.families.get(i).map(|f| &f.maker) {
-            Some(Maker::Every(e)) if e.left() == 0 => " (all)".to_string(),
-            Some(Maker::Every(e)) => format!(" (of {})", e.total()),
-            _ => String::new(),
-        };
-        let numbers = [count.texts, read, a, b, c, d, e, f, g, h, count.differences];
-        line(source.names[i], numbers.map(|n| n.to_string()), &every);
+    for (i, count) in counts.iter().enumerate().filter(|(_, count)| count.texts > 0) {
+        let told = &count.told[..columns.len()];
+        let numbers = [count.texts].into_iter().chain(told.iter().copied()).chain([count.differences]);
+        line(source.names[i], numbers.map(|n| n.to_string()), &note(source, i));
         sum.texts += count.texts;
         sum.differences += count.differences;
     }
@@ -75,8 +107,10 @@ impl Run<'_> {
         for (record, group) in records.iter().zip(answers) {
             let count = &mut self.counts[family(&self.source, record, Some(group))];
             count.texts += 1;
+            for at in told(group) {
+                count.told[at] += 1;
+            }
             let Some([number, _, tokens, _, events, records]) = answer(group) else { continue };
-            count.answers[number.min(8)] += 1;
             match number {
                 0 => self.source.again(record, tokens, events, records),
                 6 => self.source.again_at_openers(record),

@@ -9,12 +9,13 @@ pub const TOKENS_ONLY: u32 = u32::MAX;
 /// How often a text is tried without a part.
 const SMALLER_TRIES: usize = 4_000;
 
-/// A record's form: plain; or extended, for the same calls; or extended, for the tree call with so many record words.
+/// A record's form: plain; or extended, for the same calls, for the tree call with so many record words, or for the parts of the token with a number.
 #[derive(Clone, Copy)]
 pub enum Form {
     Plain,
     Extended,
     Tree(u32),
+    Parts(u32),
 }
 
 #[derive(Clone)]
@@ -36,6 +37,7 @@ impl Record {
             Form::Plain => put(&plain),
             Form::Extended => put(&extended(0, 0)),
             Form::Tree(words) => put(&extended(1, words)),
+            Form::Parts(number) => put(&extended(5, number)),
         }
         out.extend_from_slice(&self.text);
     }
@@ -147,12 +149,13 @@ impl Pair {
     }
 }
 
-/// The lines of each record: from a line `answer` on, or a line that tells of a bad record.
+/// The lines of each record: from a line `answer` or `parts` on, or a line that tells of a bad record.
 pub fn groups(output: &[u8]) -> Vec<&[u8]> {
     let mut groups = Vec::new();
     let (mut from, mut at) = (0, 0);
     for line in output.split_inclusive(|b| *b == b'\n') {
-        if from < at && (line.starts_with(b"answer") || line.starts_with(b"bad")) {
+        let first = [&b"answer"[..], b"parts", b"bad"].iter().any(|name| line.starts_with(name));
+        if from < at && first {
             groups.push(&output[from..at]);
             from = at;
         }
@@ -164,13 +167,23 @@ pub fn groups(output: &[u8]) -> Vec<&[u8]> {
     groups
 }
 
+/// The numbers of a record's first line, if it has a name.
+fn numbers(group: &[u8], name: &str) -> Option<Vec<usize>> {
+    let line = group.split(|b| *b == b'\n').next()?;
+    let text = std::str::from_utf8(line).ok()?.strip_prefix(name)?.strip_prefix(' ')?;
+    text.split(' ').map(|n| n.parse().ok()).collect()
+}
+
 /// The numbers of an answer line: five, and for the tree call that of the records; else 0.
 pub fn answer(group: &[u8]) -> Option<[usize; 6]> {
-    let line = group.split(|b| *b == b'\n').next()?;
-    let text = std::str::from_utf8(line).ok()?.strip_prefix("answer ")?;
-    let mut numbers: Vec<usize> = text.split(' ').map(|n| n.parse().ok()).collect::<Option<_>>()?;
+    let mut numbers = numbers(group, "answer")?;
     if numbers.len() == 5 {
         numbers.push(0);
     }
     numbers.try_into().ok()
+}
+
+/// The numbers of a line `parts`.
+pub fn parts(group: &[u8]) -> Option<[usize; 8]> {
+    numbers(group, "parts")?.try_into().ok()
 }

@@ -115,3 +115,43 @@ pub fn extended(oracle: &Program) -> Vec<Record> {
     }
     records
 }
+
+/// Numbers of each form, whole or broken off; some have another token behind them.
+const NUMBERS: [&str; 22] = [
+    "16#1F#", "2#1_0#E3", "16#F.E#e-2", "1_000", "3.14e+5", "1.", "1e", "16#", "16##", "0x1F", "00", "0#1", "1_e", "16#1E5", "16#1E+5", "1_#0#", "16#._#",
+    "16#f##", "16##e+", "10eV", "0B1_z", "0xg",
+];
+
+/// Texts of several tokens, with and without numbers; some are refused 2 or 8, where no token has parts.
+const AMONG: [&[u8]; 9] = [
+    b"properties A => 16#1F# ms .. -3.14e+5 * (1_000, 0x1F);",
+    b"1..2",
+    b"1_0.5",
+    b"00x1 0b2\n0o17",
+    b"--16#1F#\n16#1F#--1",
+    b"'1' \"16#1F#\"#2",
+    b"",
+    b"16#1F# \xC3",
+    b"16#1F# \"1",
+];
+
+/// Records that ask for the parts of numbers: of each text the first token, with event words and without; then, by the oracle's answers, each other token and
+/// one beyond, the greatest number, and the first token with a token word too few.
+pub fn numbers(oracle: &Program) -> Vec<Record> {
+    let texts = NUMBERS.map(str::as_bytes).into_iter().chain(AMONG);
+    let whole: Vec<Record> = texts
+        .map(|text| Record { family: 0, text: text.to_vec(), tokens: text.len() as u32, events: TOKENS_ONLY, form: Form::Plain })
+        .collect();
+    let output = oracle.output(&whole);
+    let mut records = Vec::new();
+    for (record, group) in whole.iter().zip(groups(&output)) {
+        let [_, _, tokens, ..] = answer(group).expect("an answer").map(|n| n as u32);
+        let mut ask = |tokens, events, number| records.push(Record { tokens, events, form: Form::Parts(number), ..record.clone() });
+        ask(record.tokens, 7, 0);
+        for number in (0..=tokens).chain([u32::MAX]) {
+            ask(record.tokens, TOKENS_ONLY, number);
+        }
+        ask(tokens.saturating_sub(1), TOKENS_ONLY, 0);
+    }
+    records
+}

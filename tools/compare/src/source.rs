@@ -24,34 +24,47 @@ const QUOTE_ONCE_IN: usize = 16;
 /// Of the answered records, one in so many is asked again with exactly enough words, and with too few.
 const AGAIN_ONCE_IN: usize = 8;
 
+/// For the parts of numbers a text at random is asked about its first token, and again about so many others.
+const OTHER_TOKENS: usize = 3;
+
 /// Which call is made.
 #[derive(Clone, Copy, PartialEq)]
 pub enum Call {
     Tokens,
     Section,
     Tree,
+    Parts,
 }
 
 pub struct Source {
     pub families: Vec<Family>,
     pub names: Vec<&'static str>,
-    call: Call,
+    pub call: Call,
     pub rng: Rng,
-    /// Records that an answer asked for.
+    /// Records that an answer asked for, or that ask about other tokens of a text.
     asked: Vec<Record>,
 }
 
-const EXTRA: [&str; 4] = ["long texts", "many events", "word counts", "unclosed strings"];
+const EXTRA: [&str; 5] = ["long texts", "many events", "word counts", "unclosed strings", "other tokens"];
 
 impl Source {
     pub fn new(seed: u64, call: Call) -> Source {
-        let families = if call == Call::Tokens { families::tokens() } else { families::sections() };
+        let families = match call {
+            Call::Tokens => families::tokens(),
+            Call::Parts => families::numbers(),
+            Call::Section | Call::Tree => families::sections(),
+        };
         let names = families.iter().map(|f| f.name).chain(EXTRA).collect();
         Source { families, names, call, rng: Rng::new(seed), asked: Vec::new() }
     }
 
     fn extra(&self, which: usize) -> usize {
         self.families.len() + which
+    }
+
+    /// Whether a family gives each of its texts once.
+    fn gives_every(&self, family: usize) -> bool {
+        matches!(self.families.get(family), Some(Family { maker: Maker::Every(_), .. }))
     }
 
     /// The family of the texts that are refused for a string that is not closed.
@@ -79,7 +92,7 @@ impl Source {
         if self.rng.once_in(LONG_ONCE_IN) {
             return (self.extra(0), lexer::long(&mut self.rng));
         }
-        if self.call != Call::Tokens && self.rng.once_in(LONG_ONCE_IN) {
+        if matches!(self.call, Call::Section | Call::Tree) && self.rng.once_in(LONG_ONCE_IN) {
             return (self.extra(1), sections::many_events(&mut self.rng));
         }
         let family = self.family();
@@ -121,8 +134,31 @@ impl Source {
             Call::Tokens => (self.lent(bytes), TOKENS_ONLY, Form::Plain),
             Call::Section => (words, self.lent(8 * bytes), Form::Plain),
             Call::Tree => (words, (8 * bytes).min(MOST) as u32, Form::Tree(self.lent_within(4 * RECORD * bytes, MOST_RECORDS))),
+            Call::Parts => {
+                let tokens = if self.rng.once_in(4) { self.lent(bytes) } else { words };
+                (tokens, *self.rng.pick(&[TOKENS_ONLY, 0, 1, MOST as u32]), Form::Parts(0))
+            }
         };
-        Record { family, text, tokens, events, form }
+        let record = Record { family, text, tokens, events, form };
+        if self.call == Call::Parts && !self.gives_every(family) {
+            self.ask_about_others(&record);
+        }
+        record
+    }
+
+    /// The same text with other token numbers: mostly as if a token had four bytes or more, so that many are there; else up to one above the text's bytes, since there
+    /// are no more tokens, or any.
+    fn ask_about_others(&mut self, record: &Record) {
+        let family = self.extra(4);
+        let bytes = record.text.len();
+        for _ in 0..OTHER_TOKENS {
+            let number = match self.rng.below(16) {
+                0 => self.rng.next() as u32,
+                1 => self.rng.below(bytes + 2) as u32,
+                _ => 1 + self.rng.below(bytes / 4 + 1) as u32,
+            };
+            self.asked.push(Record { family, form: Form::Parts(number), ..record.clone() });
+        }
     }
 
     /// The same text with exactly as many words as the answer counts, and with fewer.
@@ -153,6 +189,8 @@ impl Source {
                 self.asked.push(ask(tokens, fewer(events) as u32, Form::Tree(exact as u32)));
                 self.asked.push(ask(fewer(tokens), events as u32, Form::Tree(exact as u32)));
             }
+            // A line `parts` counts no words.
+            Call::Parts => {}
         }
     }
 

@@ -27,9 +27,9 @@ impl Every {
         Every { before: before.as_bytes().to_vec(), pieces, longest, total, step, given: 0 }
     }
 
-    /// Strings over some bytes.
-    pub fn bytes(bytes: &[u8], longest: usize) -> Every {
-        Every::new("", bytes.iter().map(|b| vec![*b]).collect(), longest)
+    /// What stands before, then a string over some bytes.
+    pub fn bytes(before: &str, bytes: &[u8], longest: usize) -> Every {
+        Every::new(before, bytes.iter().map(|b| vec![*b]).collect(), longest)
     }
 
     /// What stands before, then words parted by spaces.

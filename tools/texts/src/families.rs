@@ -1,4 +1,4 @@
-//! The families of texts, for the tokens-only call and for the section call.
+//! The families of texts, for the tokens-only call, for the parts of numbers and for the section call.
 use crate::every::Every;
 use crate::random::Rng;
 use crate::{lexer, sections};
@@ -26,17 +26,15 @@ fn random(name: &'static str, weight: u32, make: fn(&mut Rng) -> Vec<u8>) -> Fam
 /// Bytes at which UTF-8's rules change.
 const UTF8_EDGES: &[u8] = b"a\x7f\x80\x8f\x90\x9f\xa0\xbf\xc1\xc2\xdf\xe0\xe1\xec\xed\xee\xef\xf0\xf1\xf3\xf4\xf5\xff";
 
-pub fn tokens() -> Vec<Family> {
-    let all: Vec<u8> = (0..=255).collect();
+fn every_number() -> Vec<Family> {
     vec![
-        every("every number", Every::bytes(b"0xXb1.#eE+-_\"", 5)),
-        every("every radix", Every::bytes(b"0oObBxX12789fFgG_#", 4)),
-        every("every mark", Every::bytes(b"-\n>[=]<+*{}.:", 5)),
-        every("every comment", Every::bytes(b" -\n\r\t>\"a", 6)),
-        every("every string", Every::bytes(b"\"a\n\0-", 7)),
-        every("every edge of UTF-8", Every::bytes(UTF8_EDGES, 4)),
-        every("every two bytes", Every::bytes(&all, 2)),
-        every("every short word", Every::bytes(b"iInNoOtTfFsS", 5)),
+        every("every number", Every::bytes("", b"0xXb1.#eE+-_\"", 5)),
+        every("every radix", Every::bytes("", b"0oObBxX12789fFgG_#", 4)),
+    ]
+}
+
+fn any_tokens() -> Vec<Family> {
+    vec![
         random("bytes", 60, lexer::bytes),
         random("keywords", 60, lexer::keyword),
         random("numbers", 60, lexer::number),
@@ -46,6 +44,33 @@ pub fn tokens() -> Vec<Family> {
         random("damaged sections", 20, lexer::damaged),
         random("laid out sections", 10, derived),
     ]
+}
+
+pub fn tokens() -> Vec<Family> {
+    let all: Vec<u8> = (0..=255).collect();
+    let mut families = every_number();
+    families.extend([
+        every("every mark", Every::bytes("", b"-\n>[=]<+*{}.:", 5)),
+        every("every comment", Every::bytes("", b" -\n\r\t>\"a", 6)),
+        every("every string", Every::bytes("", b"\"a\n\0-", 7)),
+        every("every edge of UTF-8", Every::bytes("", UTF8_EDGES, 4)),
+        every("every two bytes", Every::bytes("", &all, 2)),
+        every("every short word", Every::bytes("", b"iInNoOtTfFsS", 5)),
+    ]);
+    families.extend(any_tokens());
+    families
+}
+
+/// Texts for the lexer most of which have numbers, of every form.
+pub fn numbers() -> Vec<Family> {
+    let mut families = every_number();
+    families.extend([
+        every("every tail of 0", Every::bytes("0", b"1_.e-#x", 6)),
+        every("every tail of 16#", Every::bytes("16#", b"1E._#-g", 6)),
+        random("literals", 330, lexer::literals),
+    ]);
+    families.extend(any_tokens());
+    families
 }
 
 fn derived(rng: &mut Rng) -> Vec<u8> {

@@ -1,6 +1,9 @@
 //! Random texts for the lexer.
 use crate::random::Rng;
 use crate::words::{KEYWORDS, LITERALS, MARKS, NAMES, SECTIONS};
+use std::ops::RangeInclusive;
+
+const DIGITS: &[u8] = b"0123456789";
 
 /// One of some words that are parted by spaces.
 pub fn one_of<'a>(rng: &mut Rng, from: &'a str) -> &'a str {
@@ -49,12 +52,8 @@ pub fn keyword(rng: &mut Rng) -> Vec<u8> {
     w
 }
 
-/// A number in the neighbourhood of every form that numbers have.
-pub fn number(rng: &mut Rng) -> Vec<u8> {
-    let mut text = Vec::new();
-    for _ in 0..1 + rng.below(2) {
-        text.extend_from_slice(one_of(rng, LITERALS).as_bytes());
-    }
+/// Up to three bytes changed to some that numbers have, or such bytes put in.
+fn change_number(rng: &mut Rng, text: &mut Vec<u8>) {
     for _ in 0..rng.below(4) {
         let at = rng.below(text.len() + 1);
         let b = *rng.pick(b"0127890_.#eE+-xXoObBfFgG \"");
@@ -63,6 +62,71 @@ pub fn number(rng: &mut Rng) -> Vec<u8> {
         } else {
             text.insert(at, b)
         }
+    }
+}
+
+/// A number in the neighbourhood of every form that numbers have.
+pub fn number(rng: &mut Rng) -> Vec<u8> {
+    let mut text = Vec::new();
+    for _ in 0..1 + rng.below(2) {
+        text.extend_from_slice(one_of(rng, LITERALS).as_bytes());
+    }
+    change_number(rng, &mut text);
+    text
+}
+
+/// Some of the bytes that are given, as many as a range allows.
+fn run(rng: &mut Rng, text: &mut Vec<u8>, from: &[u8], count: RangeInclusive<usize>) {
+    for _ in 0..count.start() + rng.below(count.end() - count.start() + 1) {
+        text.push(*rng.pick(from));
+    }
+}
+
+fn exponent(rng: &mut Rng, text: &mut Vec<u8>) {
+    if rng.once_in(2) {
+        run(rng, text, b"eE", 1..=1);
+        run(rng, text, b"+-", 0..=1);
+        run(rng, text, DIGITS, 0..=2);
+    }
+}
+
+/// A number: C-style, based or decimal, with each of its parts there or not.
+fn literal(rng: &mut Rng, text: &mut Vec<u8>) {
+    match rng.below(6) {
+        0 => {
+            text.push(b'0');
+            run(rng, text, b"xXoObB", 1..=1);
+            run(rng, text, b"012789aFgG_", 1..=4);
+        }
+        1..=3 => {
+            run(rng, text, DIGITS, 1..=2);
+            text.push(b'#');
+            run(rng, text, b"0189aAeEfF._", 0..=6);
+            run(rng, text, b"#", 0..=1);
+            exponent(rng, text);
+        }
+        _ => {
+            run(rng, text, DIGITS, 1..=3);
+            run(rng, text, b"._", 0..=1);
+            run(rng, text, DIGITS, 0..=3);
+            exponent(rng, text);
+        }
+    }
+}
+
+/// Up to five numbers put together from their parts, with nothing or little between them; half of the texts with small changes, a few with a long run of one byte.
+pub fn literals(rng: &mut Rng) -> Vec<u8> {
+    let mut text = Vec::new();
+    for _ in 0..1 + rng.below(5) {
+        literal(rng, &mut text);
+        text.extend_from_slice(rng.pick(&["", " ", "..", "-", "ms;", "\n"]).as_bytes());
+    }
+    if rng.once_in(2) {
+        change_number(rng, &mut text);
+    }
+    if rng.once_in(32) {
+        let at = rng.below(text.len() + 1);
+        text.splice(at..at, vec![*rng.pick(b"1_F"); rng.below(300)]);
     }
     text
 }
