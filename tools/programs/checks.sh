@@ -7,6 +7,9 @@ passed=0
 failed=0
 before=0,0
 
+# In a record, in the place of a number: the extended form, the largest settings, no event words.
+none=4294967295
+
 size() {
     wc -c < "$1" | tr -d ' '
 }
@@ -120,13 +123,18 @@ record() {
 
 # A record of the extended form: call, settings, `text`, lent token words, lent event words, the call's own number.
 extended() {
-    for n in 4294967295 "$1" "$2" "$(size "$text")" "$3" "$4" "$5"; do number "$n"; done
+    for n in $none "$1" "$2" "$(size "$text")" "$3" "$4" "$5"; do number "$n"; done
     cat "$text"
 }
 
 # A record of the tree call: `text`, lent token words, lent event words, lent record words.
 tree() {
-    extended 1 4294967295 "$@"
+    extended 1 $none "$@"
+}
+
+# A record that asks for the parts of a number: `text`, lent token words, lent event words, the token's number.
+parts() {
+    extended 5 $none "$@"
 }
 
 # The listing of `text` by 01's rule, from its bytes and the words of the answer to a record: columns go from character to character, each as

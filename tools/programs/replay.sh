@@ -1,4 +1,7 @@
-# How tools/programs-test tests `replay`: bad and large records, and what can't be read or written.
+# How tools/programs-test tests `replay`: bad and large records, parts of numbers, and what can't be read or written.
+
+# What a line `parts` has for a token that is no number.
+no_parts="0 0 0 0 0 0 0 0"
 
 # The line `bad record`, and nothing for what follows.
 bad_records() {
@@ -21,10 +24,26 @@ bad_records() {
     done
 }
 
+# The records in the files that are named are bad, and what follows is not read.
+all_bad() {
+    for bad in "$@"; do
+        { cat "$to/$bad"; tree 1 3 4; } > "$input"
+        prints "bad record of the extended form, $bad" "bad record" "$replay" < "$input"
+    done
+}
+
+# Behind the record in the file `good`, of which `want` is printed and a line `bad record`, stand so many of its bytes once more.
+cut_short() {
+    echo "bad record" >> "$to/want"
+    for bytes in "$@"; do
+        { cat "$to/good"; head -c $bytes "$to/good"; } > "$input"
+        gives "bad record of the extended form, $bytes bytes" "$replay" < "$input"
+    done
+}
+
 # The same of the extended form: a text and words over the limits, calls and settings that there are none of, a number of its own for a call that has none; and
 # a record that ends within its numbers or its text.
 bad_extended() {
-    none=4294967295
     many 40001 x > "$text"
     tree 1 1 1 > "$to/long-text"
     printf properties > "$text"
@@ -32,33 +51,41 @@ bad_extended() {
     tree 1 40001 1 > "$to/many-events"
     tree 1 1 160001 > "$to/many-records"
     tree 1 1 $none > "$to/most-records"
-    for call in 2 5 $none; do extended $call $none 1 3 4 > "$to/call-$call"; done
+    for call in 2 4 6 $none; do extended $call $none 1 3 4 > "$to/call-$call"; done
     for settings in 0 9; do extended 1 $settings 1 3 4 > "$to/settings-$settings"; done
     extended 0 0 1 3 0 > "$to/section-settings"
     extended 0 $none 1 3 4 > "$to/section-own"
     extended 0 $none 1 $none 4 > "$to/tokens-own"
-    for bad in long-text many-tokens many-events many-records most-records call-2 call-5 call-$none settings-0 settings-9 section-settings section-own tokens-own; do
-        { cat "$to/$bad"; tree 1 3 4; } > "$input"
-        prints "bad record of the extended form, $bad" "bad record" "$replay" < "$input"
-    done
+    all_bad long-text many-tokens many-events many-records most-records call-2 call-4 call-6 call-$none settings-0 settings-9 section-settings section-own tokens-own
     tree 1 3 4 > "$to/good"
-    printf '%s\n' "answer 0 0 1 1 3 1" "tokens 3932170" "events 11075584 20709377 33554432" "rest 0 0" "more 169 0 0 1" "left 0" "bad record" > "$to/want"
-    for bytes in 4 11 12 13 27 28 37; do
-        { cat "$to/good"; head -c $bytes "$to/good"; } > "$input"
-        gives "bad record of the extended form, $bytes bytes" "$replay" < "$input"
-    done
+    printf '%s\n' "answer 0 0 1 1 3 1" "tokens 3932170" "events 11075584 20709377 33554432" "rest 0 0" "more 169 0 0 1" "left 0" > "$to/want"
+    cut_short 4 11 12 13 27 28 37
+}
+
+# The same for the parts of a number; its own number has no limit.
+bad_parts() {
+    many 40001 1 > "$text"
+    parts 1 $none 0 > "$to/parts-long-text"
+    printf '16#1F#' > "$text"
+    parts 40001 $none 0 > "$to/parts-many-tokens"
+    parts 1 40001 0 > "$to/parts-many-events"
+    extended 5 0 1 $none 0 > "$to/parts-settings"
+    all_bad parts-long-text parts-many-tokens parts-many-events parts-settings
+    parts 1 $none 0 > "$to/good"
+    echo "parts 30 6 0 2 3 5 1 0" > "$to/want"
+    cut_short 12 27 28 33
 }
 
 # The section call and the tokens-only call in both forms; the tree call with no event words, and with fewer record words than a record has and more.
 forms() {
     cp "$sample" "$text"
-    for events in 8192 100 4294967295; do
+    for events in 8192 100 $none; do
         record 16384 $events | "$replay" > "$to/want"
-        extended 0 4294967295 16384 $events 0 > "$input"
+        extended 0 $none 16384 $events 0 > "$input"
         gives "both forms, $events event words" "$replay" < "$input"
     done
     printf properties > "$text"
-    tree 1 4294967295 4 > "$input"
+    tree 1 $none 4 > "$input"
     answered "the tree call with no event words" "answer 5 0 0 0 0 0" "rest 1 0" "left 4"
     for words in 0 3; do
         tree 1 3 $words > "$input"
@@ -66,6 +93,70 @@ forms() {
     done
     tree 1 3 7 > "$input"
     answered "the tree call with 7 record words" "answer 0 0 1 1 3 1" "rest 0 0" "left 3"
+}
+
+# With so many token and event words lent for `text`, the line `parts` must have the numbers that are given, for each of the tokens behind them.
+tells_parts() {
+    of="$1, $2 token words, $3 event words"
+    words="$2 $3"
+    line="parts $4"
+    shift 4
+    for token in "$@"; do
+        parts $words $token > "$input"
+        prints "parts, $of, token $token" "$line" "$replay" < "$input"
+    done
+}
+
+# Each form of number, whole or broken off.
+number_forms() {
+    while read -r literal numbers; do
+        printf %s "$literal" > "$text"
+        tells_parts "$literal" 2 $none "$numbers" 0
+    done << 'END'
+16#1F# 30 6 0 2 3 5 1 0
+2#1_0#E3 31 8 0 1 2 5 1 1
+16#F.E#e-2 31 10 0 2 3 6 1 1
+1_000 30 5 0 0 0 5 0 0
+3.14e+5 31 7 0 0 0 4 0 1
+1. 31 2 0 0 0 2 0 0
+1e 31 2 0 0 0 1 0 1
+16# 30 3 0 2 3 3 0 0
+16## 30 4 0 2 3 3 1 0
+0x1F 2 4 0 0 0 0 0 0
+00 30 2 0 0 0 2 0 0
+0#1 30 3 0 1 2 3 0 0
+1_e 30 2 0 0 0 2 0 0
+16#1E5 30 6 0 2 3 6 0 0
+END
+}
+
+# A number among other tokens: event words are of no account; tokens that are no number, or do not exist, have no parts. Nor has a token of a refused text.
+numbers_in_texts() {
+    printf 'properties A => -16#F.E#e-2 ms;' > "$text"
+    for events in 0 40000 $none; do tells_parts "a section" 11 $events "31 10 0 2 3 6 1 1" 7; done
+    tells_parts "a section" 40000 $none "$no_parts" 0 1 6 8 9 10 11 12 39999 40000 $((none - 1)) $none
+    tells_parts "a section" 10 $none "$no_parts" 7
+    tells_parts "a section" 0 $none "$no_parts" 0
+    printf "'0' \"1\" -- 2" > "$text"
+    tells_parts "digits in a string and a comment" 7 $none "30 1 0 0 0 1 0 0" 1
+    tells_parts "digits in a string and a comment" 7 $none "$no_parts" 0 2 3 4 5 6 7
+    printf '16#1F# "' > "$text"
+    tells_parts "a string that is not closed" 9 $none "$no_parts" 0 2
+    printf '16#1F# \303' > "$text"
+    tells_parts "no UTF-8" 9 $none "$no_parts" 0 2
+    : > "$text"
+    tells_parts "an empty text" 1 $none "$no_parts" 0
+}
+
+# The longest number and one that is too long; the last of as many tokens as there can be.
+large_numbers() {
+    many 32768 1 > "$text"
+    tells_parts "32,768 digits" 1 $none "30 32768 0 0 0 32768 0 0" 0
+    many 32769 1 > "$text"
+    tells_parts "32,769 digits" 1 $none "$no_parts" 0
+    many 16384 +1 > "$text"
+    tells_parts "32,768 tokens" 32768 40000 "30 1 0 0 0 1 0 0" 32767
+    tells_parts "32,768 tokens" 40000 $none "$no_parts" 32766 32768
 }
 
 # 40,000 bytes, nearly as many tokens, as many events as there may be and one more, their nodes, and many such records.
@@ -93,7 +184,11 @@ large_records() {
 test_replay() {
     bad_records
     bad_extended
+    bad_parts
     forms
+    number_forms
+    numbers_in_texts
+    large_numbers
     large_records
     copies 3 "$kept/stdin" > "$input"
     copies 3 "$kept/stdout" > "$to/want"
