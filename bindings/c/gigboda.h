@@ -1,10 +1,11 @@
-/* Gigboda for C99 and C++: the tokens of an AADL text, the events of its property section, the tree that they spell, all of it in words.
+/* Gigboda for C99 and C++: the tokens of an AADL text and the parts of its numbers, the events of its property section, the tree that they
+ * spell, all of it in words.
  *
  * Link with target/staticlib/libcapi.a, which `rt staticlib capi` writes (x86-64):
  *
  *     cc -std=c99 -I bindings/c FILE.c target/staticlib/libcapi.a
  *
- * The library has four functions, and they are proved: crates/capi/src/lib.rt says what each leaves, for every text, every number of lent
+ * The library has five functions, and they are proved: crates/capi/src/lib.rt says what each leaves, for every text, every number of lent
  * words and whatever the words hold. All else is inline in this header, which needs gigboda_kinds.h beside it, and is tested, not proved
  * (bindings/c/test).
  *
@@ -23,7 +24,7 @@ extern "C" {
 #endif
 
 #define GIGBODA_VERSION_MAJOR 0
-#define GIGBODA_VERSION_MINOR 5
+#define GIGBODA_VERSION_MINOR 6
 #define GIGBODA_VERSION_PATCH 0
 #define GIGBODA_QUOTED_NUMBERS(major, minor, patch) #major "." #minor "." #patch
 #define GIGBODA_QUOTED(major, minor, patch) GIGBODA_QUOTED_NUMBERS(major, minor, patch)
@@ -125,6 +126,10 @@ void gigboda_tokenize(const char *text, size_t text_len, uint32_t *tokens, size_
 void gigboda_token_text(const char *text, size_t text_len, const uint32_t *words, size_t words_len, size_t number, size_t *part,
                         size_t part_len);
 
+/* The parts of the number that a token is: eight numbers, in the struct's order, as far as they are lent. */
+void gigboda_number_parts(const char *text, size_t text_len, const uint32_t *words, size_t words_len, size_t number, size_t *parts,
+                          size_t parts_len);
+
 /* ---- The calls ---- */
 
 /* The answer that five numbers are. */
@@ -199,6 +204,39 @@ static inline struct gigboda_part gigboda_token_part(const char *text, size_t te
     part.start = numbers[0];
     part.length = numbers[1];
     return part;
+}
+
+/* The parts of a number. Their places count from the literal's start, which gigboda_token_part gives; an end is the first place behind a
+ * part. A literal as in C, such as `0x1F`, has its kind and length, and 0 in all else. */
+struct gigboda_number {
+    unsigned kind;                 /* GIGBODA_KIND_INTEGER_LIT or _REAL_LIT; GIGBODA_KIND_ERROR for a literal as in C */
+    size_t length;                 /* of the literal in bytes; 0 if the token is none, and then all else is 0 */
+    size_t base_begin, base_end;   /* the digits before `#`; 0 and 0 without one */
+    size_t inner_begin, inner_end; /* the digits behind `#`, with `.` and `_`; without a `#` all before the exponent */
+    int closed;                    /* 1 if the closing `#` stands at inner_end, else 0 */
+    int exponent;                  /* 1 if an exponent, perhaps without digits, stands from inner_end + closed to the end; else 0 */
+};
+
+/* The parts of the number that a token is. Tokens count from 0, spaces and comments too, as in the `token` of a step. Any words are allowed:
+ * a literal is told only if it stands in the text where the words place the token, with the kind and the length that the token's word says.
+ * It goes through the words up to that one. */
+static inline struct gigboda_number gigboda_read_number(const char *text, size_t text_len, const uint32_t *tokens, size_t tokens_len,
+                                                        size_t token)
+{
+    static const uint32_t none = 0;
+    size_t numbers[8] = {0, 0, 0, 0, 0, 0, 0, 0};
+    struct gigboda_number parts;
+
+    gigboda_number_parts(text ? text : "", text_len, tokens ? tokens : &none, tokens_len, token, numbers, 8);
+    parts.kind = (unsigned)numbers[0];
+    parts.length = numbers[1];
+    parts.base_begin = numbers[2];
+    parts.base_end = numbers[3];
+    parts.inner_begin = numbers[4];
+    parts.inner_end = numbers[5];
+    parts.closed = numbers[6] != 0;
+    parts.exponent = numbers[7] != 0;
+    return parts;
 }
 
 /* ---- Places ---- */

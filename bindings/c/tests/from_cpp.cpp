@@ -16,12 +16,17 @@ static gigboda_tree_answer read_tree(const std::string &text, std::vector<uint32
                              records.size());
 }
 
+static gigboda_number read_number(const std::string &text, const std::vector<uint32_t> &tokens, size_t token)
+{
+    return gigboda_read_number(text.data(), text.size(), tokens.data(), tokens.size(), token);
+}
+
 int main()
 {
     std::vector<uint32_t> tokens, events;
     const std::string text = "properties A => 1 .. 2;";
 
-    if (read(text, tokens, events).number != GIGBODA_REFUSAL_NO_TOKEN_WORD)
+    if (read(text, tokens, events).number != GIGBODA_REFUSAL_NO_TOKEN_WORD || read_number(text, tokens, 0).length != 0)
         return 1;
     tokens.resize(GIGBODA_MOST_BYTES);
     if (read(text, tokens, events).number != GIGBODA_REFUSAL_NO_EVENT_WORD)
@@ -37,13 +42,15 @@ int main()
     std::puts(kinds.c_str());
     if (kinds != "PROPERTY_SECTION PROPERTY_ASSOCIATION PROPERTY_REF RANGE_VALUE INTEGER_VALUE INTEGER_VALUE ")
         return 3;
+    if (read_number(text, tokens, 6).inner_end != 1 || read_number(text, tokens, 7).length != 0)
+        return 4;
     std::vector<uint32_t> records;
     if (read_tree(text, tokens, events, records).answer.number != GIGBODA_REFUSAL_NO_RECORD)
-        return 4;
+        return 5;
     records.resize(GIGBODA_MOST_NODES * GIGBODA_RECORD_WORDS);
     gigboda_tree_answer tree = read_tree(text, tokens, events, records);
     std::string same;
     for (size_t node = 0; node < tree.records; node++)
         same += std::string(gigboda_kind_name(gigboda_record_of(records.data(), node).kind)) + ' ';
-    return same == kinds ? 0 : 5;
+    return same == kinds ? 0 : 6;
 }

@@ -35,12 +35,19 @@ void gigboda_token_text(const char *text, size_t text_len, const uint32_t *words
     look(text && words && part && text_len + words_len + number == 0 && part_len == 2);
 }
 
+void gigboda_number_parts(const char *text, size_t text_len, const uint32_t *words, size_t words_len, size_t number, size_t *parts,
+                          size_t parts_len)
+{
+    look(text && words && parts && text_len + words_len + number == 0 && parts_len == 8);
+}
+
 int main(void)
 {
     gigboda_read_section(NULL, 0, NULL, 0, NULL, 0);
     gigboda_read_tree(NULL, 0, NULL, 0, NULL, 0, NULL, 0);
     gigboda_read_tokens(NULL, 0, NULL, 0);
     gigboda_token_part(NULL, 0, NULL, 0, 0);
+    gigboda_read_number(NULL, 0, NULL, 0, 0);
     printf("%d calls, %d with a pointer that must not be\n", calls, bad);
-    return calls != 4 || bad != 0;
+    return calls != 5 || bad != 0;
 }

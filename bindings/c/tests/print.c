@@ -5,8 +5,9 @@
  *     print trees           for each the tree call's answer, with half as many record words lent as event words where the record does not
  *                           say how many; and each node's record, text, children, and the innermost node of its first token
  *     print places          for each the line and column of every place of its text
+ *     print numbers         for each the tokens of its text that are numbers, with their parts
  *
- * tools/README.md says what a record is; those of the tokens-only call are passed over. */
+ * tools/README.md says what a record is; those of the tokens-only call and of a number's parts are passed over. */
 #include "gigboda.h"
 #include <stdio.h>
 #include <string.h>
@@ -97,6 +98,19 @@ static void print_places(void)
     }
 }
 
+static void print_numbers(void)
+{
+    size_t count = gigboda_read_tokens(text, length, tokens, MOST).tokens, i;
+
+    for (i = 0; i < count; i++) {
+        struct gigboda_number n = gigboda_read_number(text, length, tokens, count, i);
+
+        if (n.length > 0)
+            printf("%zu: %u %zu %zu %zu %zu %zu %d %d\n", i, n.kind, n.length, n.base_begin, n.base_end, n.inner_begin, n.inner_end,
+                   n.closed, n.exponent);
+    }
+}
+
 /* The record's next number, lowest byte first; 0 at the end. */
 static int read_number(uint32_t *number)
 {
@@ -121,8 +135,9 @@ static int read_rest(void)
         good = read_number(&call) && read_number(&settings) && read_number(&length) && read_number(&lent_tokens)
                && read_number(&lent_events) && read_number(&lent_records);
         lent_records = call == 1 ? lent_records : lent_events / 2;
+        lent_events = call == 5 ? NONE : lent_events; /* a number's parts: no section */
     }
-    return good && call <= 1 && settings == NONE && length <= MOST && lent_tokens <= MOST
+    return good && (call <= 1 || call == 5) && settings == NONE && length <= MOST && lent_tokens <= MOST
            && (lent_events == NONE || (lent_events <= MOST && lent_records <= GIGBODA_RECORD_WORDS * MOST))
            && fread(text, 1, length, stdin) == length;
 }
@@ -149,6 +164,8 @@ int main(int count, char **arguments)
         return print_all(print_tree);
     if (count == 2 && strcmp(arguments[1], "places") == 0)
         return print_all(print_places);
+    if (count == 2 && strcmp(arguments[1], "numbers") == 0)
+        return print_all(print_numbers);
     print_tables();
     return fflush(stdout) != 0;
 }

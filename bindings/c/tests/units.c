@@ -65,6 +65,15 @@ static const char *record(size_t node)
     return shown;
 }
 
+/* A number's parts in a row, and those of a token that is none. */
+static const char no_parts[] = "0 0 0 0 0 0 0 0";
+static const char *parts(struct gigboda_number n)
+{
+    sprintf(shown, "%u %zu %zu %zu %zu %zu %d %d", n.kind, n.length, n.base_begin, n.base_end, n.inner_begin, n.inner_end, n.closed,
+            n.exponent);
+    return shown;
+}
+
 /* Writes a beginning, then a piece so many times, then an end; its length. */
 static size_t make_text(const char *begin, const char *piece, size_t times, const char *end)
 {
@@ -241,6 +250,8 @@ static void null_with_length_0_is_allowed(void)
     struct gigboda_step step;
 
     CHECK(part.start == 0 && part.length == 0);
+    CHECK_SAME(parts(gigboda_read_number(NULL, 0, NULL, 0, 0)), no_parts);
+    CHECK_SAME(parts(gigboda_read_number("1", 1, NULL, 0, 0)), no_parts);
     CHECK_SAME(numbers(refused), "4 0 0 0 0");
     CHECK(!gigboda_is_clean(&refused, NULL, NULL) && !gigboda_walk_next(&walk, &step));
     CHECK_SAME(numbers(gigboda_read_section("properties", 10, NULL, 0, NULL, 0)), "3 0 0 0 0");
@@ -250,6 +261,121 @@ static void null_with_length_0_is_allowed(void)
     CHECK_SAME(numbers(gigboda_read_tokens(NULL, 0, NULL, 0)), "0 0 0 0 0");
     CHECK_SAME(numbers(gigboda_read_tokens("a", 1, NULL, 0)), "3 0 0 0 0");
     CHECK(gigboda_position_of(NULL, 0, 3).column == 1);
+}
+
+/* The parts of the token with which a text begins. */
+static const char *first_parts(const char *section)
+{
+    size_t count = gigboda_read_tokens(section, strlen(section), tokens, GIGBODA_MOST_BYTES).tokens;
+
+    return parts(gigboda_read_number(section, strlen(section), tokens, count, 0));
+}
+
+static void numbers_have_their_parts(void)
+{
+    CHECK_SAME(first_parts("1_000"), "30 5 0 0 0 5 0 0");
+    CHECK_SAME(first_parts("00"), "30 2 0 0 0 2 0 0");
+    CHECK_SAME(first_parts("1."), "31 2 0 0 0 2 0 0");
+    CHECK_SAME(first_parts("1..2"), "30 1 0 0 0 1 0 0");
+    CHECK_SAME(first_parts("3.14e+5"), "31 7 0 0 0 4 0 1");
+    CHECK_SAME(first_parts("1e"), "31 2 0 0 0 1 0 1");
+    CHECK_SAME(first_parts("1_e"), "30 2 0 0 0 2 0 0");
+    CHECK_SAME(first_parts("0x1F"), "2 4 0 0 0 0 0 0");
+}
+
+static void numbers_with_a_base_have_their_parts(void)
+{
+    CHECK_SAME(first_parts("16#1F#"), "30 6 0 2 3 5 1 0");
+    CHECK_SAME(first_parts("2#1_0#E3"), "31 8 0 1 2 5 1 1");
+    CHECK_SAME(first_parts("16#F.E#e-2"), "31 10 0 2 3 6 1 1");
+    CHECK_SAME(first_parts("16#1E5"), "30 6 0 2 3 6 0 0");
+    CHECK_SAME(first_parts("16#"), "30 3 0 2 3 3 0 0");
+    CHECK_SAME(first_parts("16##"), "30 4 0 2 3 3 1 0");
+    CHECK_SAME(first_parts("0#1"), "30 3 0 1 2 3 0 0");
+}
+
+/* A string, a comment, a space, marks, a word, a character that fits no rule. */
+static void other_tokens_have_no_parts(void)
+{
+    static const char *const others[] = {"\"16#1F#\"", "--16#1F#", " 1", "#1", ".1", "e1", "-1", "\302\262"};
+    size_t i;
+
+    for (i = 0; i < COUNT(others); i++)
+        CHECK_SAME(first_parts(others[i]), no_parts);
+}
+
+/* Writes base, inner digits and exponent of a literal; how many characters. */
+static int put_parts(char *at, const char *literal, struct gigboda_number n)
+{
+    size_t exponent = n.exponent ? n.inner_end + n.closed : n.length;
+
+    return sprintf(at, "%.*s|%.*s|%.*s ", (int)(n.base_end - n.base_begin), literal + n.base_begin, (int)(n.inner_end - n.inner_begin),
+                   literal + n.inner_begin, (int)(n.length - exponent), literal + exponent);
+}
+
+/* A step has the number that its token's parts are asked by. */
+static void a_walk_meets_numbers(void)
+{
+    const char *section = "properties A => 16#1F#E2 ms .. -- 7\n 2.5e3; B1 => (0x1F, 1_0);";
+    struct gigboda_answer answer = read_enough(section);
+    struct gigboda_walk walk = gigboda_walk_of(&answer, tokens, events);
+    struct gigboda_step step;
+    char *at = shown;
+
+    while (gigboda_walk_next(&walk, &step)) {
+        struct gigboda_number n = gigboda_read_number(section, strlen(section), tokens, answer.tokens, step.token);
+
+        if (step.sort == GIGBODA_STEP_TOKEN && n.length > 0)
+            at += put_parts(at, section + step.place, n);
+    }
+    CHECK_SAME(shown, "16|1F|E2 |2.5|e3 || |1_0| ");
+}
+
+/* What words tell of the token that stands behind the first bytes of a text, so many of them. */
+static const char *told(const char *section, uint32_t before, uint32_t kind, uint32_t length)
+{
+    uint32_t words[2];
+
+    words[0] = before;
+    words[1] = kind * 65536 + length;
+    return parts(gigboda_read_number(section, strlen(section), words, 2, 1));
+}
+
+/* Whatever the words are, a literal is told only where it stands, with its own kind and length. */
+static void wrong_words_tell_no_number(void)
+{
+    static const uint32_t wrong[][3] = {{1, 31, 6}, {1, 2, 6},  {1, 33, 6}, {1, 30, 0}, {1, 30, 2},    {1, 30, 5}, {1, 30, 7},
+                                        {0, 30, 6}, {2, 30, 6}, {3, 30, 1}, {7, 30, 1}, {65535, 30, 1}};
+    const uint32_t word = GIGBODA_KIND_INTEGER_LIT * 65536 + 6;
+    size_t i;
+
+    CHECK_SAME(told(" 16#1F#", 1, 30, 6), "30 6 0 2 3 5 1 0");
+    CHECK_SAME(told(" 16#1F#", 2, 30, 5), "30 5 0 1 2 4 1 0");
+    CHECK_SAME(told(" 16#1F#", 4, 30, 1), "30 1 0 0 0 1 0 0");
+    for (i = 0; i < COUNT(wrong); i++)
+        CHECK_SAME(told(" 16#1F#", wrong[i][0], wrong[i][1], wrong[i][2]), no_parts);
+    CHECK_SAME(parts(gigboda_read_number("16#1F#", 6, &word, 1, 1)), no_parts);
+    CHECK_SAME(parts(gigboda_read_number("16#1F#", 6, &word, 1, SIZE_MAX)), no_parts);
+    CHECK_SAME(parts(gigboda_read_number("16#1F#", 5, &word, 1, 0)), no_parts);
+}
+
+/* As many of the eight numbers are written as are lent; eight zeros, too. */
+static void parts_keep_to_what_is_lent(void)
+{
+    static const size_t wanted[] = {30, 6, 0, 2, 3, 5, 1, 0};
+    const uint32_t word = GIGBODA_KIND_INTEGER_LIT * 65536 + 6;
+    size_t lent, i;
+
+    for (lent = 0; lent <= 9; lent++) {
+        size_t number[9] = {7, 7, 7, 7, 7, 7, 7, 7, 7}, none[9] = {7, 7, 7, 7, 7, 7, 7, 7, 7};
+
+        gigboda_number_parts("16#1F#", 6, &word, 1, 0, number, lent);
+        gigboda_number_parts("", 0, &word, 1, 0, none, lent);
+        for (i = 0; i < 9; i++) {
+            CHECK(number[i] == (i < lent && i < 8 ? wanted[i] : 7));
+            CHECK(none[i] == (i < lent && i < 8 ? 0 : 7));
+        }
+    }
 }
 
 static void with_most_bytes_token_words_no_text_is_refused_3(void)
@@ -658,6 +784,12 @@ static const struct {
     TEST(what_is_refused_1_to_6_is_not_refused_7),
     TEST(the_librarys_functions_keep_to_what_is_lent),
     TEST(null_with_length_0_is_allowed),
+    TEST(numbers_have_their_parts),
+    TEST(numbers_with_a_base_have_their_parts),
+    TEST(other_tokens_have_no_parts),
+    TEST(a_walk_meets_numbers),
+    TEST(wrong_words_tell_no_number),
+    TEST(parts_keep_to_what_is_lent),
     TEST(with_most_bytes_token_words_no_text_is_refused_3),
     TEST(more_than_most_events_words_do_not_help),
     TEST(places_have_lines_and_columns),

@@ -35,6 +35,15 @@ extern "C" {
         part: *mut usize,
         part_len: usize,
     );
+    fn gigboda_number_parts(
+        text: *const u8,
+        text_len: usize,
+        words: *const u32,
+        words_len: usize,
+        number: usize,
+        parts: *mut usize,
+        parts_len: usize,
+    );
 }
 
 /// Number, place, tokens, taken, events.
@@ -92,4 +101,12 @@ pub fn token_part(text: &[u8], words: &[u32], number: usize) -> [usize; 2] {
     // As above.
     unsafe { gigboda_token_text(text.as_ptr(), text.len(), words.as_ptr(), words.len(), number, part.as_mut_ptr(), part.len()) }
     part
+}
+
+/// Kind, length, begin and end of the base, begin and end of the inner digits, closed, exponent.
+pub fn number_parts(text: &[u8], words: &[u32], number: usize) -> [usize; 8] {
+    let mut parts = [0; 8];
+    // As above.
+    unsafe { gigboda_number_parts(text.as_ptr(), text.len(), words.as_ptr(), words.len(), number, parts.as_mut_ptr(), parts.len()) }
+    parts
 }

@@ -3,7 +3,7 @@
 //! that `rt staticlib capi` writes, where build.rs finds it; a Cargo.toml names it by its folder, `gigboda = { path = "bindings/rust" }`.
 //!
 //! A section's tree is gone through step by step with [`Section::nodes`]; a [`Tree`] has a record for each node, from which its parent, its
-//! children and its text are found without the events.
+//! children and its text are found without the events. [`number_parts`] tells base, digits and exponent of a number.
 //!
 //! ```
 //! use gigboda::Node;
@@ -32,6 +32,7 @@ mod calls;
 mod kinds;
 mod messages;
 mod nodes;
+mod numbers;
 mod places;
 mod refusals;
 mod tree;
@@ -39,6 +40,7 @@ mod tree;
 pub use kinds::Kind;
 pub use messages::Message;
 pub use nodes::{Node, Nodes, Step};
+pub use numbers::{number_parts, Number};
 pub use places::{position, Position};
 pub use refusals::{Refusal, Refused};
 use std::ops::Range;

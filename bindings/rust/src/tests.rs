@@ -1,5 +1,5 @@
 //! The tree of small texts, written with a bracket and the kind for each node, the text for each token, and a message's number; refusals,
-//! places and limits.
+//! parts of numbers, places and limits.
 use super::*;
 
 fn shape(text: &str) -> String {
@@ -147,6 +147,120 @@ fn the_text_of_each_token() {
     assert_eq!(token_text(text, &filled, filled.len()), b"");
     assert_eq!(token_text(b"ab", &[1, 2], 1), b"");
     assert_eq!(words[filled.len()..], [9; 16][filled.len()..]);
+}
+
+/// What is told of the token with which a text begins.
+fn first(text: &str) -> Option<Number> {
+    let mut words = [0; 8];
+    number_parts(text.as_bytes(), tokenize(text.as_bytes(), &mut words).expect("not refused"), 0)
+}
+
+#[test]
+fn numbers_have_their_parts() {
+    let (integer, real) = (Kind::INTEGER_LIT, Kind::REAL_LIT);
+    let examples = [
+        ("16#1F#", integer, 0..2, 3..5, true, false),
+        ("2#1_0#E3", real, 0..1, 2..5, true, true),
+        ("16#F.E#e-2", real, 0..2, 3..6, true, true),
+        ("16#F#e", real, 0..2, 3..4, true, true),
+        ("16#F.E#", real, 0..2, 3..6, true, false),
+        ("16#1E5", integer, 0..2, 3..6, false, false),
+        ("16#.", real, 0..2, 3..4, false, false),
+        ("16#", integer, 0..2, 3..3, false, false),
+        ("16##", integer, 0..2, 3..3, true, false),
+        ("16##E+", real, 0..2, 3..3, true, true),
+        ("0#1", integer, 0..1, 2..3, false, false),
+        ("0", integer, 0..0, 0..1, false, false),
+        ("00", integer, 0..0, 0..2, false, false),
+        ("1_000", integer, 0..0, 0..5, false, false),
+        ("3.14e+5", real, 0..0, 0..4, false, true),
+        ("1.", real, 0..0, 0..2, false, false),
+        ("1.E-", real, 0..0, 0..2, false, true),
+        ("1e", real, 0..0, 0..1, false, true),
+        ("0x1F", Kind::ERROR, 0..0, 0..0, false, false),
+        ("0B1_e", Kind::ERROR, 0..0, 0..0, false, false),
+    ];
+    for (text, kind, base, inner, closed, exponent) in examples {
+        assert_eq!(first(text), Some(Number { kind, len: text.len(), base, inner, closed, exponent }), "{text}");
+    }
+}
+
+/// What stands behind a number's token is no part of it.
+#[test]
+fn numbers_end_with_their_tokens() {
+    let told = |text: &str| first(text).map(|n| (n.kind, n.len, n.base, n.inner, n.closed, n.exponent));
+    let (integer, real) = (Kind::INTEGER_LIT, Kind::REAL_LIT);
+    assert_eq!(told("1_e"), Some((integer, 2, 0..0, 0..2, false, false)));
+    assert_eq!(told("1..2"), Some((integer, 1, 0..0, 0..1, false, false)));
+    assert_eq!(told("1_0.5"), Some((integer, 3, 0..0, 0..3, false, false)));
+    assert_eq!(told("1e5e5"), Some((real, 3, 0..0, 0..1, false, true)));
+    assert_eq!(told("16#1E+5"), Some((integer, 5, 0..2, 3..5, false, false)));
+    assert_eq!(told("16#1G#"), Some((integer, 4, 0..2, 3..4, false, false)));
+    assert_eq!(told("16#1##"), Some((integer, 5, 0..2, 3..4, true, false)));
+    assert_eq!(told("0x1F#"), Some((Kind::ERROR, 4, 0..0, 0..0, false, false)));
+    assert_eq!(told("0xG"), Some((integer, 1, 0..0, 0..1, false, false)));
+}
+
+/// Base and inner digits of each token of a section that is a number, by the numbers of all tokens and by those of the steps.
+#[test]
+fn numbers_of_a_section() {
+    let text = b"properties A1 => 16#1F# ms .. 2.5e3; -- 7\n B => (\"8\", 0x1F, -1_0) applies to g[3];";
+    let (mut tokens, mut events) = ([0; 64], [0; 64]);
+    let section = property_section(text, &mut tokens, &mut events).expect("not refused");
+    let told = |token: usize| {
+        let Number { base, inner, .. } = number_parts(text, section.token_words, token)?;
+        let literal = std::str::from_utf8(token_text(text, section.token_words, token)).expect("UTF-8");
+        Some((token, &literal[base], &literal[inner]))
+    };
+    let wanted = [(6, "16", "1F"), (12, "", "2.5"), (25, "", ""), (29, "", "1_0"), (38, "", "3")];
+    assert!((0..section.token_words.len()).filter_map(told).eq(wanted));
+    let taken = section.nodes().filter(|step| matches!(step.node, Node::Token(_)));
+    assert!(taken.filter_map(|step| told(step.token)).eq(wanted));
+}
+
+#[test]
+fn other_tokens_are_no_numbers() {
+    let others = ["\"16#1F#\"", "--16#1F#", " 1", "#1", ".1", "e1", "-1", "::", "properties", "\u{b2}", "\u{661}"];
+    assert!(others.iter().all(|text| first(text).is_none()));
+}
+
+/// A literal is told only where it stands, with its own kind, eight bits of the word, and its own length.
+#[test]
+fn any_words_tell_a_number_or_none() {
+    let word = |kind: Kind, len: u32| kind.number() * 65_536 + len;
+    let told = |before: u32, word: u32| number_parts(b" 16#1F#", &[before, word], 1);
+    let inner = |before: u32, len: u32| told(before, word(Kind::INTEGER_LIT, len)).map(|n| (n.len, n.inner));
+    assert_eq!(inner(1, 6), Some((6, 3..5)));
+    assert_eq!(inner(2, 5), Some((5, 2..4)));
+    assert_eq!(inner(4, 1), Some((1, 0..1)));
+    assert_eq!(told(1, word(Kind::INTEGER_LIT, 6) + 7 * 16_777_216), told(1, word(Kind::INTEGER_LIT, 6)));
+    let wrong_places = [(0, 6), (0, 7), (2, 6), (3, 1), (5, 1), (7, 0), (7, 1), (8, 1), (65_535, 6)];
+    let wrong_lengths = [0, 1, 2, 5, 7, 65_535].map(|len| (1, len));
+    assert!(wrong_places.into_iter().chain(wrong_lengths).all(|(before, len)| inner(before, len).is_none()));
+    let wrong_kinds = Kind::ALL.iter().filter(|kind| **kind != Kind::INTEGER_LIT);
+    assert!(wrong_kinds.map(|kind| told(1, word(*kind, 6))).all(|number| number.is_none()));
+}
+
+#[test]
+fn tokens_that_are_not_there_are_no_numbers() {
+    let one = Kind::INTEGER_LIT.number() * 65_536 + 1;
+    assert!(number_parts(b"1", &[one], 0).is_some());
+    assert!([1, 2, usize::MAX].iter().all(|number| number_parts(b"1", &[one], *number).is_none()));
+    assert_eq!(number_parts(b"1", &[], 0), None);
+    assert_eq!(number_parts(b"1", &[one, one], 1), None);
+    assert_eq!(number_parts(b"1", &[u32::MAX, u32::MAX, one], 2), None);
+    assert_eq!((number_parts(b"", &[], 0), number_parts(b"", &[one], 0), number_parts(b"", &[one - 1], 0)), (None, None, None));
+}
+
+/// The text may be any, too: one that the other calls refuse, with numbers of up to as many bytes as a word can tell.
+#[test]
+fn any_text_has_numbers() {
+    let integer = Kind::INTEGER_LIT.number() * 65_536;
+    assert!(number_parts(b"\xff1", &[1, integer + 1], 1).is_some());
+    let longest = "1".repeat(65_535);
+    assert_eq!(number_parts(longest.as_bytes(), &[integer + 65_535], 0).map(|n| n.inner), Some(0..65_535));
+    let longer = longest + "1";
+    assert!([0, 65_535].iter().all(|len| number_parts(longer.as_bytes(), &[integer + len], 0).is_none()));
 }
 
 /// The steps through an association with an empty node and no semicolon, with spaces around all.

@@ -1,12 +1,14 @@
 //! The C header against this crate: the same tables, the same steps through the trees of the kept sections and of made ones, what the trees'
-//! records say, and the same lines and columns. The two walk in different ways: the header without memory, this crate with a list of the Starts that were used. cc
-//! builds bindings/c/tests/print.c.
+//! records say, the same parts of numbers, and the same lines and columns. The two walk in different ways: the header without memory, this crate
+//! with a list of the Starts that were used. cc builds bindings/c/tests/print.c.
 mod files;
 mod made;
 mod records;
 
-use gigboda::{position, property_section, property_tree, Kind, Message, Node, Position, Refusal, Section, Step, Tree};
-use records::{records, Record};
+use gigboda::{
+    number_parts, position, property_section, property_tree, tokenize, Kind, Message, Node, Position, Refusal, Section, Step, Tree,
+};
+use records::{parts, records, Record, TREE};
 use std::fmt::Write as _;
 use std::io::Write as _;
 use std::path::PathBuf;
@@ -104,7 +106,7 @@ fn node_line(tree: &Tree, node: usize) -> String {
 
 /// What the C program prints for a record's tree.
 fn tree_lines(record: &Record) -> String {
-    let lent = if record.call == 1 { record.records } else { record.events / 2 };
+    let lent = if record.call == TREE { record.own } else { record.events / 2 };
     let (mut tokens, mut events) = (vec![0; record.tokens as usize], vec![0; record.events as usize]);
     let mut records = vec![0; lent as usize];
     match property_tree(record.text, &mut tokens, &mut events, &mut records) {
@@ -115,6 +117,17 @@ fn tree_lines(record: &Record) -> String {
         }
         Err(refused) => format!("{} {} 0 0 0 0\n", refused.refusal.number(), refused.place),
     }
+}
+
+/// What the C program prints for the numbers in a record's text.
+fn number_lines(record: &Record) -> String {
+    let mut words = vec![0; record.text.len()];
+    let filled = tokenize(record.text, &mut words).unwrap_or_default();
+    let line = |token| {
+        let numbers = parts(number_parts(record.text, filled, token)?).map(|n| n.to_string());
+        Some(format!("{token}: {}\n", numbers.join(" ")))
+    };
+    (0..filled.len()).filter_map(line).collect()
 }
 
 /// A record of the section call.
@@ -143,6 +156,11 @@ fn the_same_walks() {
 #[test]
 fn the_same_trees() {
     the_same_for_sections("print_trees", "trees", tree_lines);
+}
+
+#[test]
+fn the_same_numbers() {
+    the_same_for_sections("print_numbers", "numbers", number_lines);
 }
 
 /// Line and column of every place: of the sample whose listing is kept (columns.rs), of made texts, and of bytes that are no UTF-8.

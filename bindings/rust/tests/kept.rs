@@ -2,8 +2,8 @@
 mod files;
 mod records;
 
-use gigboda::{property_section, property_tree, tokenize, Refused, Tree};
-use records::{records, Record};
+use gigboda::{number_parts, property_section, property_tree, tokenize, Refused, Tree};
+use records::{parts, records, Record, PARTS, TREE};
 use std::fmt::Display;
 
 /// What every lent word holds before a call.
@@ -16,7 +16,7 @@ fn line<N: Display>(name: &str, numbers: &[N]) -> String {
 
 /// What a record's call fills: token words, tokens taken, event words, record words.
 fn called(record: &Record, tokens: &mut [u32], events: &mut [u32], words: &mut [u32]) -> Result<[usize; 4], Refused> {
-    if record.call == 1 {
+    if record.call == TREE {
         let Tree { section, record_words } = property_tree(record.text, tokens, events, words)?;
         Ok([section.token_words.len(), section.taken, section.event_words.len(), record_words.len()])
     } else if record.is_section() {
@@ -27,10 +27,18 @@ fn called(record: &Record, tokens: &mut [u32], events: &mut [u32], words: &mut [
     }
 }
 
-fn lines(record: &Record) -> String {
+/// The line for a token of the words that the tokens-only call leaves, also where it refuses the text.
+fn parts_line(record: &Record) -> String {
+    let mut tokens = vec![OLD; record.tokens as usize];
+    let _ = tokenize(record.text, &mut tokens);
+    line("parts", &number_parts(record.text, &tokens, record.own as usize).map_or([0; 8], parts))
+}
+
+/// The lines of another call.
+fn answer_lines(record: &Record) -> String {
     let mut tokens = vec![OLD; record.tokens as usize];
     let mut events = vec![OLD; if record.is_section() { record.events as usize } else { 0 }];
-    let mut words = vec![OLD; record.records as usize];
+    let mut words = vec![OLD; record.own as usize];
     let answer = called(record, &mut tokens, &mut events, &mut words);
     let [t, taken, e, r] = answer.unwrap_or([0; 4]);
     let (number, place, left) = answer.map_or_else(|r| (r.refusal.number(), r.place, 0), |_| (0, 0, OLD));
@@ -38,7 +46,7 @@ fn lines(record: &Record) -> String {
     let numbers = [number, place, t, taken, e, r / Tree::RECORD];
     let section = line("tokens", &tokens[..t]) + &line("events", &events[..e]) + &line("rest", &[rest(&tokens, t), rest(&events, e)]);
     match record.call {
-        1 => line("answer", &numbers) + &section + &line("more", &words[..r]) + &line("left", &[rest(&words, r)]),
+        TREE => line("answer", &numbers) + &section + &line("more", &words[..r]) + &line("left", &[rest(&words, r)]),
         _ => line("answer", &numbers[..5]) + &section,
     }
 }
@@ -49,7 +57,7 @@ fn every_kept_answer() {
     let mut wanted = std::str::from_utf8(&answers).expect("lines").split_inclusive('\n');
     let all = records(&input);
     for (number, record) in all.iter().enumerate() {
-        let ours = lines(record);
+        let ours = if record.call == PARTS { parts_line(record) } else { answer_lines(record) };
         let theirs: String = wanted.by_ref().take(ours.lines().count()).collect();
         assert_eq!(ours, theirs, "record {number}");
     }

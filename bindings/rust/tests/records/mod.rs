@@ -1,24 +1,35 @@
 //! Records: a call, a text and how many words are lent. tools/README.md says how they are written. Not every test reads all of a record.
 #![allow(dead_code)]
+use gigboda::Number;
 
 /// What stands in a record for the tokens-only call, before a record that says which call it asks for, and for the largest settings.
 pub const NONE: u32 = u32::MAX;
 
+/// The calls that a record names: the section call or the tokens-only call, the tree call, and the parts of a number.
+pub const PLAIN: u32 = 0;
+pub const TREE: u32 = 1;
+pub const PARTS: u32 = 5;
+
 pub struct Record<'a> {
-    /// 0 for the section call or the tokens-only call, 1 for the tree call.
     pub call: u32,
     pub text: &'a [u8],
     pub tokens: u32,
     /// How many event words are lent, or `NONE` for the tokens-only call.
     pub events: u32,
-    /// How many record words are lent to the tree call.
-    pub records: u32,
+    /// The call's own number: how many record words are lent to the tree call, or the number of the token whose parts are asked for.
+    pub own: u32,
 }
 
 impl Record<'_> {
     pub fn is_section(&self) -> bool {
-        self.events != NONE
+        self.call != PARTS && self.events != NONE
     }
+}
+
+/// The eight numbers that a line has for a number's parts.
+pub fn parts(number: Number) -> [usize; 8] {
+    let Number { kind, len, base, inner, closed, exponent } = number;
+    [kind as usize, len, base.start, base.end, inner.start, inner.end, closed.into(), exponent.into()]
 }
 
 /// The next number, and the bytes behind it.
@@ -39,19 +50,19 @@ fn numbers<const N: usize>(mut bytes: &[u8]) -> ([u32; N], &[u8]) {
 
 /// The record with which bytes begin, and the bytes behind it.
 fn next(bytes: &[u8]) -> (Record<'_>, &[u8]) {
-    let (length, call, tokens, events, records, rest) = match number(bytes) {
+    let (length, call, tokens, events, own, rest) = match number(bytes) {
         (NONE, rest) => {
-            let ([call, settings, length, tokens, events, records], rest) = numbers(rest);
-            assert!(call <= 1 && settings == NONE, "a call that is not known, or settings");
-            (length, call, tokens, events, records, rest)
+            let ([call, settings, length, tokens, events, own], rest) = numbers(rest);
+            assert!([PLAIN, TREE, PARTS].contains(&call) && settings == NONE, "a call that is not known, or settings");
+            (length, call, tokens, events, own, rest)
         }
         (length, rest) => {
             let ([tokens, events], rest) = numbers(rest);
-            (length, 0, tokens, events, 0, rest)
+            (length, PLAIN, tokens, events, 0, rest)
         }
     };
     let (text, rest) = rest.split_at(length as usize);
-    (Record { call, text, tokens, events, records }, rest)
+    (Record { call, text, tokens, events, own }, rest)
 }
 
 /// The records in bytes, one after another.
