@@ -1,6 +1,6 @@
 //! The safe functions of bindings/rust, the tree and its records against the given Rust, on texts of all families (tools/bindings-test runs
 //! it).
-use gigboda::{property_section, property_tree, tokenize, Event, Kind, Message, Node, Refusal, Refused, Section};
+use gigboda::{number_parts, property_section, property_tree, tokenize, Event, Kind, Message, Node, Number, Refusal, Refused, Section};
 use spar::event::Event as Theirs;
 use spar::syntax_kind::SyntaxKind;
 use std::ops::Range;
@@ -158,19 +158,51 @@ fn unclosed(text: &str, tokens: &[(SyntaxKind, usize)]) -> Option<Refused> {
     Some(Refused { refusal: Refusal::UnclosedString, place })
 }
 
-/// Compares the tokens of a text with the Rust's. False for a text that is refused.
-fn same_tokens(text: &str) -> bool {
+/// The parts of a number by its token's kind and text, if it is one: the first `#` parts base and inner digits, the second these and an exponent;
+/// without `#` an exponent begins with the first `e`.
+fn split(kind: Kind, text: &str) -> Option<Number> {
+    let is_c_style = kind == Kind::ERROR && text.starts_with('0');
+    let (base, inner, closed, exponent) = match text.split_once('#') {
+        _ if is_c_style => (0, 0..0, false, false),
+        Some((base, behind)) => {
+            let (inner, exponent) = behind.split_once('#').unwrap_or((behind, ""));
+            let begin = base.len() + 1;
+            (base.len(), begin..begin + inner.len(), inner.len() < behind.len(), !exponent.is_empty())
+        }
+        None => {
+            let end = text.find(['e', 'E']).unwrap_or(text.len());
+            (0, 0..end, false, end < text.len())
+        }
+    };
+    let is_number = is_c_style || matches!(kind, Kind::INTEGER_LIT | Kind::REAL_LIT);
+    is_number.then_some(Number { kind, len: text.len(), base: 0..base, inner, closed, exponent })
+}
+
+/// Compares what is told of each token as a number with what the Rust's token says; how many are numbers.
+fn same_numbers(text: &str, words: &[u32], theirs: &[(SyntaxKind, usize)]) -> usize {
+    let (mut at, mut count) = (0, 0);
+    for (token, (kind, len)) in theirs.iter().enumerate() {
+        let wanted = split(Kind::of(*kind as u32).expect("a kind"), &text[at..at + len]);
+        count += usize::from(wanted.is_some());
+        assert_eq!(number_parts(text.as_bytes(), words, token), wanted, "token {token} of {text:?}");
+        at += len;
+    }
+    count
+}
+
+/// Compares the tokens of a text, and the parts of its numbers, with the Rust's; how many numbers there are. None for a text that is refused.
+fn same_tokens(text: &str) -> Option<usize> {
     let mut words = vec![7; text.len()];
     let theirs = spar::lexer::tokenize(text);
     if let Some(refused) = unclosed(text, &theirs) {
         assert_eq!(tokenize(text.as_bytes(), &mut words), Err(refused), "{text:?}");
         assert!(words.iter().all(|word| *word == 0), "{text:?}");
-        return false;
+        return None;
     }
     let ours = tokenize(text.as_bytes(), &mut words).expect("not refused");
-    let theirs: Vec<u32> = theirs.iter().map(|(kind, len)| *kind as u32 * 65_536 + *len as u32).collect();
-    assert_eq!(ours, theirs, "{text:?}");
-    true
+    let their_words: Vec<u32> = theirs.iter().map(|(kind, len)| *kind as u32 * 65_536 + *len as u32).collect();
+    assert_eq!(ours, their_words, "{text:?}");
+    Some(same_numbers(text, ours, &theirs))
 }
 
 /// Compares the events, the tree and its records with the Rust's. False for a text that is refused where the Rust has no limit.
@@ -240,9 +272,12 @@ fn kinds_are_the_rusts() {
 #[test]
 fn tokens_are_the_rusts() {
     let texts = texts_of(families::tokens(), 7);
-    let read = texts.iter().filter(|text| same_tokens(text)).count();
+    let of_each: Vec<usize> = texts.iter().filter_map(|text| same_tokens(text)).collect();
+    let (read, numbers) = (of_each.len(), of_each.iter().sum::<usize>());
     assert!(read > 20_000 && texts.len() - read > 1_000, "only {read} of {} texts were read, or nearly all", texts.len());
+    assert!(numbers > 10_000, "only {numbers} numbers");
     println!("{read} of {} texts cut into the same tokens, the others refused for a string that is not closed", texts.len());
+    println!("{numbers} numbers in them with the same parts");
 }
 
 #[test]
