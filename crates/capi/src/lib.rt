@@ -32,13 +32,7 @@ fn tell(lent: &mut [usize], numbers: &[usize])
 fn tell_answer(lent: &mut [usize], a: Answer)
     ensures { λ r. ⌜ now (lent .exit) ≡ told a (now (lent .entry)) ⌝ }
 {
-    let five = [
-        a.number as usize,
-        a.place,
-        a.tokens,
-        a.taken,
-        a.events,
-    ];
+    let five = [a.number as usize, a.place, a.tokens, a.taken, a.events];
     tell(lent, &five);
 }
 
@@ -115,7 +109,12 @@ pub extern "C" fn gigboda_token_text(src: &[u8], words: &[u32], number: usize, p
 
 // The parts of the number that a token is, by its number: eight numbers into lent numbers.
 #[no_mangle]
-pub extern "C" fn gigboda_number_parts(src: &[u8], words: &[u32], number: usize, parts: &mut [usize])
+pub extern "C" fn gigboda_number_parts(
+    src: &[u8],
+    words: &[u32],
+    number: usize,
+    parts: &mut [usize],
+)
     ensures parts_numbers { λ r. ⌜ now (parts .exit) ≡ parts-told (now (src .entry)) (now (words .entry)) number (now (parts .entry)) ⌝ }
     ensures parts_hold { λ r. ⌜ Parts-hold (from-token (now (src .entry)) (now (words .entry)) number) (number-parts (now (src .entry)) (now (words .entry)) number) ⌝ }
 {

@@ -4,17 +4,19 @@ use aadl::Answer;
 use aadl::Limits;
 use aadl::Number;
 use aadl::Span;
+use classes::DIGITS;
 use classes::class_table;
 use classes::is_ascii;
 use classes::lead_table;
 use classes::peek;
+use classes::run_end;
 use classes::sequence_at;
 use classes::skip_ascii;
 use codec::kind_in;
 use codec::length_in;
 use codec::token_word;
 use keywords::word_tables;
-use scan::scan_number;
+use scan::number_from;
 use scan::scan_string;
 use scan::scan_token;
 use scan::word_bound;
@@ -204,7 +206,8 @@ pub fn number_parts(src: &[u8], words: &[u32], number: usize) -> Number
         return NO_NUMBER;
     }
     let classes = class_table();
-    let n = scan_number(src, at, &classes);
+    let d = run_end(src, at, DIGITS, &classes);
+    let n = number_from(src, at, d, &classes);
     let word = words[number];
     if (n.kind == kind_in(word)) & (n.len == length_in(word)) {
         return n;

@@ -122,13 +122,7 @@ fn put_answer(out: &mut [u8], at: usize, a: Answer) -> usize
     ensures { λ r. ⌜ Wrote (now (out .entry)) at (named-answer a) (now (out .exit)) r ⌝ }
 {
     let end = put_text(out, at, b"answer");
-    let five = [
-        a.number as usize,
-        a.place,
-        a.tokens,
-        a.taken,
-        a.events,
-    ];
+    let five = [a.number as usize, a.place, a.tokens, a.taken, a.events];
     put_numbers(out, end, &five)
 }
 

@@ -45,3 +45,7 @@ abbrev pub known : (front back : List ℕ) → Bool
 known front back =
     let call = number-at front 4 in
     eqb (number-at front 8) none && ((eqb call tree || eqb call parts) || (eqb call plain && eqb (number-at back 12) 0))
+
+-- How many record words a record asks for.
+abbrev pub lent-records : Head → ℕ
+lent-records h = cond (eqb (h .call) tree) (h .own) 0

@@ -19,7 +19,7 @@ ghost use Rattle.aadl.specs.Words.{bytes};
 ghost use Rattle.writing.specs.Written.{Wrote};
 ghost use Rattle.aadl.specs.Answers.{token-words, left-in};
 ghost use Rattle.replay.specs.Calls.{answer-of, events-left, called, tree-called, parts-called, made};
-ghost use Rattle.replay.specs.Heads.{number-at, head-from, extended, known, record-head};
+ghost use Rattle.replay.specs.Heads.{number-at, head-from, extended, known, record-head, lent-records};
 
 // How many bytes, token words and event words the longest record has, and how many record words: four for a record.
 const MOST: usize = 40000;
@@ -178,7 +178,8 @@ fn is_known(front: &[u8; 16], back: &[u8; 16]) -> bool
 {
     let call = number_at(front, 4);
     let own = number_at(back, 12);
-    (number_at(front, 8) == NONE) & ((call == TREE) | (call == PARTS) | ((call == PLAIN) & (own == 0)))
+    (number_at(front, 8) == NONE)
+        & ((call == TREE) | (call == PARTS) | ((call == PLAIN) & (own == 0)))
 }
 
 fn head_of(front: &[u8; 16], back: &[u8; 16]) -> Head
@@ -210,7 +211,9 @@ fn failed() -> Step
 }
 
 // How many record words a record asks for.
-fn lent_records(h: Head) -> usize {
+fn lent_records(h: Head) -> usize
+    ensures { λ r. ⌜ r ≡ lent-records h ⌝ }
+{
     if h.call == TREE {
         return h.own;
     }

@@ -5,10 +5,10 @@ use native.Mathlib.Omega.{arith}
 use mathlib.Core.Path.{_≡_, refl, sym, ap, subst, _∙_}
 use mathlib.Core.Bool.{Bool, true, false, Bool·beq, not, _&&_, _||_, and-true}
 use mathlib.Core.List.{List}
-use lib.ListN.{length, getD, drop}
+use lib.ListN.{getD, drop}
 use lib.Seq.{drop-cons, getD-drop}
 use lib.Dec.{eqb, ltb}
-use borrow.Author.Tests.{not-true, eqb-true}
+use borrow.Author.Tests.{not-true}
 use Rattle.predictive.proofs.Tests.{never, or-neither}
 use Rattle.aadl.specs.Kinds.{#_, WHITESPACE, COMMENT, INTEGER-LIT, STRING-LIT, IDENT}
 use Rattle.aadl.specs.Bytes.{peek, is-whitespace, is-digit, is-ident-start, is-ident-continue, not-lf, run, run-end}
@@ -60,10 +60,6 @@ module _ (s : List ℕ) (at k : ℕ) (h : Begins s at k) where
   -- a run to which the byte belongs goes on from the next one
   run-on : (g : ℕ → Bool) → g (peek (drop at s) 0) ≡ true → run-end g s (at + 1) - at ≡ run g (drop at s)
   run-on g t = ap (λ (e : ℕ). e - at) (sym (run-more g s at (h .inside) (ap g first-byte ∙ t))) ∙ run-rest g s at
-
--- where a digit stands, a number begins
-pub number-begins : (s : List ℕ) (at : ℕ) → at < length s → getD s at 0 < 256 → is-digit (getD s at 0) ≡ true → Begins s at (# INTEGER-LIT)
-number-begins s at h b e = record { inside = h; byte = b; leads = eqb-true (lead-of (getD s at 0)) (# INTEGER-LIT) (sym (sorted (getD s at 0) b .digit) ∙ e) }
 
 -- THE SORTS ------------------------------------------------------------------------------------------------------------
 

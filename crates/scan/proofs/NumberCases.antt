@@ -4,12 +4,17 @@ use Prim.Native.Nat.{ℕ, _+_, _-_, _≤_, _<_}
 use native.Mathlib.Nat.{add-assoc}
 use native.Mathlib.Omega.{arith}
 use mathlib.Core.Path.{_≡_, refl, sym, ap, _∙_}
-use mathlib.Core.Bool.{Bool, true, false, not, _&&_, _||_, cond}
+use mathlib.Core.Logic.{⊎-elim}
+use mathlib.Core.Bool.{Bool, true, false, not, _&&_, _||_, cond, false≢true}
 use mathlib.Core.List.{List}
 use lib.ListN.{take, drop}
 use lib.Seq.{getD-drop, drop-drop}
 use lib.Dec.{eqb}
+use borrow.Author.Tests.{eqb-true, not-true}
 use Rattle.predictive.specs.Grammar.{has}
+use Rattle.predictive.proofs.Tests.{or-cases, or-l, or-r, or-neither}
+use Rattle.aadl.proofs.Bools.{false-unless}
+use Rattle.aadl.proofs.ByteClasses.{other-byte, radix-word}
 use Rattle.aadl.specs.declared.Number.{Number}
 use Rattle.aadl.specs.Kinds.{#_, INTEGER-LIT, REAL-LIT}
 use Rattle.aadl.specs.Bytes.{peek, is-digit, is-ident-continue, is-exponent, is-sign, is-grouped, is-based, run, run-end}
@@ -29,6 +34,12 @@ module _ (s : List ℕ) (at : ℕ) where
   unfolding run-end
   run-end-of p i = rw (drop-drop i at s) (omega arith)
 
+  -- the same of a place in the text
+  pub run-end-there : (p : ℕ → Bool) (i : ℕ) → at ≤ i → run-end p s i - at ≡ run-end p (drop at s) (i - at)
+  run-end-there p i h =
+      let place : at + (i - at) ≡ i = omega (arith, h) in
+      omega (arith, run-end-of p (i - at), ap (run-end p s) place)
+
   run-end-at : (p : ℕ → Bool) (i k : ℕ) → at + run-end p (drop at s) (i + k) ≡ run-end p s (at + i + k)
   run-end-at p i k = run-end-of p (i + k) ∙ ap (run-end p s) (sym (add-assoc at i k))
 
@@ -42,7 +53,7 @@ module _ (s : List ℕ) (at : ℕ) where
       later at x _ _ ∙ ap (λ (n : ℕ). cond x n (at + i)) (later at g _ _)
       ∙ (λ j. cond (e j) (cond (f j) (run-end-at is-digit i 2 j) (run-end-at is-digit i 1 j)) (at + i))
 
--- DIGITS BEFORE AN EXPONENT --------------------------------------------------------------------------------------------
+  -- REALS, AND NUMBERS WITH A BASE ---------------------------------------------------------------------------------------
 
   -- k is the place in the number that p is in the text
   module _ (k p : ℕ) (same : at + k ≡ p) where
@@ -90,6 +101,20 @@ module _ (s : List ℕ) (at : ℕ) where
 
 -- CASES ----------------------------------------------------------------------------------------------------------------
 
+-- a byte that is `_`, or neither a letter nor `#`, begins none of the other cases but a dot's
+pub integer-behind : (m c : ℕ) → (eqb m 95 || not (is-ident-continue m || eqb m 35)) ≡ true → (radix-digit m c ≡ false) × (eqb m 35 ≡ false) × (is-exponent m ≡ false)
+integer-behind m c e =
+    ⊎-elim
+    (λ q. let mark = eqb-true m 95 q in (ap (λ (b : ℕ). radix-digit b c) mark, ap (λ (b : ℕ). eqb b 35) mark, ap is-exponent mark))
+    (λ q.
+    let other = not-true (is-ident-continue m || eqb m 35) q in
+    let no-word = or-l (is-ident-continue m) (eqb m 35) other in (
+      false-unless (radix-digit m c) (λ r. false≢true (sym no-word ∙ radix-word m c r .0)),
+      or-r (is-ident-continue m) (eqb m 35) other,
+      or-neither _ _ (other-byte is-ident-continue m 101 no-word refl) (other-byte is-ident-continue m 69 no-word refl),
+    ))
+    (or-cases (eqb m 95) (not (is-ident-continue m || eqb m 35)) e)
+
 -- The digits of the number at a place end at d, where m stands, and c behind it.
 pub record Digits (s : List ℕ) (at d m c : ℕ) : Type 0 where
   pub ends : at + (d - at) ≡ d
@@ -134,8 +159,6 @@ module _ {s : List ℕ} {at d m c : ℕ} (z : Digits s at d m c) where
         unfolding number-from
         exponent-number x = rw (here, next, t, h, o, x) refl
 
-        pub plain-number : is-exponent m ≡ false → (e : ℕ) → e ≡ run-end is-grouped s d → integer (e - at) ≡ whole
+        pub plain-number : is-exponent m ≡ false → integer (run-end is-grouped (drop at s) (d - at)) ≡ whole
         unfolding number-from
-        plain-number x e f =
-            let len : e - at ≡ run-end is-grouped (drop at s) (d - at) = omega (arith, f, run-end-of s at is-grouped (d - at), ap (run-end is-grouped s) (z .ends)) in
-            rw (here, next, t, h, o, x) (ap integer len)
+        plain-number x = rw (here, next, t, h, o, x) refl

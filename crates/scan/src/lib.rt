@@ -48,8 +48,8 @@ ghost use Prim.Native.Nat.{_+_, _-_, _≤_, _<_};
 ghost use lib.ListN.{length, drop};
 ghost use lib.Dec.{eqb};
 ghost use Rattle.aadl.specs.Kinds.{#_, WHITESPACE as WHITE, IDENT as NAME, INTEGER-LIT, STRING-LIT};
-ghost use Rattle.aadl.specs.Bytes.{run-end, is-ident-continue};
-ghost use Rattle.aadl.specs.Tokens.{token, quoted, unbased, exponent-end, radix-digit, real, based, number-of, mark-of, token-of};
+ghost use Rattle.aadl.specs.Bytes.{run-end, is-ident-continue, is-grouped};
+ghost use Rattle.aadl.specs.Tokens.{token, quoted, unbased, exponent-end, radix-digit, based, real, integer, number-from, number-of, mark-of, token-of};
 ghost use Rattle.keywords.specs.Tables.{Lent};
 ghost use Rattle.classes.specs.Classes.{lead-table, class-table};
 ghost use Rattle.scan.specs.Inner.{single, longest};
@@ -164,12 +164,13 @@ fn is_c_style(first: u8, d: usize, m: u8, b: u8, classes: &[u8; 256]) -> bool
 fn unbased(kind: u32, len: usize, e: usize, exponent: bool) -> Number
     ensures { λ r. ⌜ r ≡ unbased kind len e exponent ⌝ }
 {
+    let closed = false;
     Number {
         kind,
         len,
         base: Span { begin: 0, end: 0 },
         inner: Span { begin: 0, end: e },
-        closed: false,
+        closed,
         exponent,
     }
 }
@@ -215,17 +216,25 @@ fn scan_based(s: &[u8], at: usize, i: usize, classes: &[u8; 256]) -> Number
     }
 }
 
-// The number at a place: what stands where its digits end tells the first case that fits.
-pub fn scan_number(s: &[u8], at: usize, classes: &[u8; 256]) -> Number
-    requires { ⌜ Begins (now s) at (# INTEGER-LIT) × (now classes ≡ class-table) ⌝ }
-    ensures { λ r. ⌜ r ≡ number-of (drop at (now (s .entry))) ⌝ }
+// The integer at a place, without a base, whose first digits end at `d`: more of them, and `_`, may follow.
+fn scan_integer(s: &[u8], at: usize, d: usize, classes: &[u8; 256]) -> Number
+    requires { ⌜ (at ≤ d) × (now classes ≡ class-table) ⌝ }
+    ensures { λ r. ⌜ r ≡ integer (run-end is-grouped (drop at (now (s .entry))) (d - at)) ⌝ }
 {
-    let d = run_end(s, at + 1, DIGITS, classes);
+    let n = run_end(s, d, GROUPED, classes) - at;
+    unbased(INTEGER_LIT, n, n, false)
+}
+
+// The number at a place whose first digits end at `d`: what stands there tells the first case that fits.
+pub fn number_from(s: &[u8], at: usize, d: usize, classes: &[u8; 256]) -> Number
+    requires { ⌜ (at < d) × (d ≤ length (now s)) × (now classes ≡ class-table) ⌝ }
+    ensures { λ r. ⌜ r ≡ number-from (drop at (now (s .entry))) (d - at) ⌝ }
+{
     let w = window_at(s, d);
     let b = w.first;
     let c = w.second;
     if is_c_style(s[at], d - at, b, c, classes) {
-        return unbased(ERROR, run_end(s, at + 1, WORD, classes) - at, 0, false);
+        return unbased(ERROR, run_end(s, at, WORD, classes) - at, 0, false);
     }
     if b == b'#' {
         return scan_based(s, at, d + 1, classes);
@@ -236,8 +245,25 @@ pub fn scan_number(s: &[u8], at: usize, classes: &[u8; 256]) -> Number
     if in_class(b, EXPONENTS, classes) {
         return scan_real(s, at, d, classes);
     }
-    let n = run_end(s, d, GROUPED, classes) - at;
-    unbased(INTEGER_LIT, n, n, false)
+    scan_integer(s, at, d, classes)
+}
+
+// The number at a place. Where neither a letter nor `#` stands behind its digits, as behind most, it is an integer, or with a dot a real, and is read
+// without a call of `number_from`.
+fn scan_number(s: &[u8], at: usize, classes: &[u8; 256]) -> Number
+    requires { ⌜ Begins (now s) at (# INTEGER-LIT) × (now classes ≡ class-table) ⌝ }
+    ensures { λ r. ⌜ r ≡ number-of (drop at (now (s .entry))) ⌝ }
+{
+    let d = run_end(s, at + 1, DIGITS, classes);
+    let w = window_at(s, d);
+    let b = w.first;
+    if (b == b'.') & !(w.second == b'.') {
+        return scan_real(s, at, run_end(s, d + 1, DIGITS, classes), classes);
+    }
+    if (b == b'_') | !(in_class(b, WORD, classes) | (b == b'#')) {
+        return scan_integer(s, at, d, classes);
+    }
+    number_from(s, at, d, classes)
 }
 
 // WORDS

@@ -1,21 +1,22 @@
 -- A byte that is a digit stands in the text, so that the sum before the token was not cut; the number is scanned there, and told if the token's word has its
 -- kind and length (aadl's NumberLaws). What is told holds whichever it is. Assumes nothing.
-use Prim.Native.Nat.{ℕ, _+_, _≤_, _<_, min}
+use Prim.Native.Nat.{ℕ, _+_, _-_, _<_, min}
 use native.Mathlib.Omega.{arith}
 use mathlib.Core.Path.{_≡_, refl, sym, ap, subst, _∙_}
 use mathlib.Core.Bool.{Bool, true, false, _&&_, cond}
 use mathlib.Core.List.{List}
-use lib.ListN.{length, getD, take, drop, drop-of-length-le, List·getD-eq-default}
+use lib.ListN.{length, take, drop, drop-of-length-le, List·getD-eq-default}
 use lib.Seq.{getD-drop}
-use lib.Dec.{ltb, leb, eqb}
+use lib.Dec.{ltb, eqb}
 use borrow.Author.Tests.{ltb-true, ltb-false, not-true, not-false}
 use Rattle.aadl.specs.declared.Number.{Number}
 use Rattle.aadl.specs.Bytes.{peek, is-digit}
-use Rattle.aadl.specs.Tokens.{number-of, total, from-token}
-use Rattle.aadl.specs.NumberParts.{no-number, fits-word, number-parts, Parts-hold}
+use Rattle.aadl.specs.Tokens.{number-from, number-of, total, from-token}
+use Rattle.aadl.specs.NumberParts.{no-number, number-parts, Parts-hold}
+use Rattle.aadl.proofs.RunLaws.{run-more, run-end-from, run-rest}
 use Rattle.aadl.proofs.TokenBounds.{inside}
 use Rattle.aadl.proofs.NumberLaws.{told-parts-hold, no-digit-there, digit-there, no-word-there}
-use Rattle.scan.proofs.FirstByte.{number-begins}
+use Rattle.classes.specs.Classes.{member}
 use borrow.Author.Needs.{needs}
 use Rattle.lexer.proofs.number_parts.Statement.{statement}
 use Rattle.lexer.proofs.number_parts.Tie as tie
@@ -59,41 +60,53 @@ digit q = ap is-digit (sym (q .before .peek .ensures)) ∙ not-false _ (q .if2 .
 here : (q : tie.Else2) → q .before .before .token-start .result < length (q .before .before .before .before .before .before .args .src .now)
 here q = let a = q .before .before .before .before .before .before .args in inside is-digit refl (a .src .now) (q .before .before .token-start .result) (digit q)
 
-begins : tie.Need-scan-number-requires
+-- its digits end behind it
+end-from : (q : tie.After-run-end) → q .before .before .before .before .before .token-start .result < q .run-end .result
+unfolding member
+end-from q =
+    let e = q .before .before .before in
+    let text = e .before .before .before .before .before .before .args .src .now in
+    let at = e .before .before .token-start .result in
+    omega (arith, q .run-end .ensures .0, run-more is-digit text at (here e) (digit e), run-end-from is-digit text (at + 1))
+
+begins : tie.Need-number-from-requires
 begins c κs =
-    let q = c .before .before in
-    let a = q .before .before .before .before .before .before .args in
-    let at = q .before .before .token-start .result in
-    (number-begins (a .src .now) at (here q) (omega (arith, c .before .before .before .before .before .before .before .shared-slice-known .given at)) (digit q), c .before .class-table .ensures)
+    let q = c .before in
+    (end-from q, omega (arith, q .run-end .ensures .1, here (q .before .before .before)), q .before .before .class-table .ensures)
 
 -- what is told goes by the tests of the kind and the length
 by-tests : (q : tie.After-struct-known2) →
-    let a = q .before .before .before .before .before .before .before .before .before .before .before .before .before .before .args in
-    let n = q .before .before .before .before .before .scan-number .result in
+    let a = q .before .before .before .before .before .before .before .before .before .before .before .before .before .before .before .before .args in
+    let n = q .before .before .before .before .before .number-from .result in
     number-parts (a .src .now) (a .words .now) (a .number) ≡ cond (eqb (n .kind) (q .before .before .before .kind-in .result) && eqb (n .len) (q .before .length-in .result)) n no-number
+unfolding number-of member
 by-tests q =
-    let e = q .before .before .before .before .before .before .before .before in
+    let read = q .before .before .before .before .before in
+    let r = read .before .before in
+    let e = r .before .before .before in
     let a = e .before .before .before .before .before .before .args in
-    let k = total (take (a .number) (a .words .now)) in
-    let start : k ≡ e .before .before .token-start .result = omega (arith, e .before .before .token-start .ensures, here e) in
-    let same = ap (λ (i : ℕ). number-of (drop i (a .src .now))) start ∙ sym (q .before .before .before .before .before .scan-number .ensures) in
+    let text = a .src .now in
+    let at = e .before .before .token-start .result in
+    let start : total (take (a .number) (a .words .now)) ≡ at = omega (arith, e .before .before .token-start .ensures, here e) in
+    let count = sym (run-rest is-digit text at) ∙ ap (λ (d : ℕ). d - at) (sym (r .run-end .ensures .0)) in
+    let same = ap (λ (i : ℕ). number-of (drop i text)) start ∙ ap (number-from (drop at text)) count ∙ sym (read .number-from .ensures) in
     let kind = sym (q .before .before .before .kind-in .ensures) in
     let len = sym (q .before .length-in .ensures) in
-    digit-there (a .src .now) (a .words .now) (a .number) (ap is-digit (first (e .before) ∙ e .before .peek .ensures) ∙ digit e)
+    digit-there text (a .words .now) (a .number) (ap is-digit (first (e .before) ∙ e .before .peek .ensures) ∙ digit e)
     ∙ (λ j. cond (eqb (same j .kind) (kind j) && eqb (same j .len) (len j)) (same j) no-number)
 
 returns-3 : tie.Need-returns-3
 returns-3 c =
-    let a = c .before .before .before .before .before .before .before .before .before .before .before .before .before .before .before .args in
+    let a = c .before .before .before .before .before .before .before .before .before .before .before .before .before .before .before .before .before .args in
     told (a .src .now) (a .words .now) (a .number) _ (sym (by-tests (c .before) ∙ rw (c .if3 .taken) refl))
 
 returns-4 : tie.Need-returns-4
 returns-4 c =
-    let a = c .before .before .before .before .before .before .before .before .before .before .before .before .before .before .before .args in
+    let a = c .before .before .before .before .before .before .before .before .before .before .before .before .before .before .before .before .before .args in
     told (a .src .now) (a .words .now) (a .number) no-number (sym (by-tests (c .before) ∙ rw (c .if3 .left) refl))
 
 pub number-parts-spec : {M : Type 1} → statement M
 number-parts-spec =
     tie.close
-    (tie.spec returns (λ c κs. search needs) (λ c κs. search needs) returns-2 (λ c κs. search needs) begins (λ c. search needs) (λ c. search needs) (λ c κs. search needs)
+    (tie.spec returns (λ c κs. search needs) (λ c κs. search needs) returns-2 (λ c κs. search needs) (λ c κs. search needs) begins (λ c. search needs) (λ c. search needs) (λ c κs. search needs)
     (λ c κs. search needs) returns-3 returns-4)
