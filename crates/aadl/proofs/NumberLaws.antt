@@ -1,10 +1,10 @@
 -- What a form relies on of a number's parts (`parts-hold`), case by case as 01 lists them: each run of digits is of its class, and the marks
 -- between the runs are those that the cases test. So of what is told by token number, whatever the words (`told-parts-hold`), which is a number
 -- or none. Assumes nothing.
-use Prim.Native.Nat.{ℕ, _+_, _-_, _≤_, _<_, zero-le}
+use Prim.Native.Nat.{ℕ, _+_, _-_, _≤_, zero-le}
 use native.Mathlib.Nat.{not-suc-le-zero}
 use native.Mathlib.Omega.{arith}
-use mathlib.Core.Path.{_≡_, refl, sym, ap, _∙_}
+use mathlib.Core.Path.{_≡_, refl, ap, _∙_}
 use mathlib.Core.Bool.{Bool, true, false, _&&_, _||_, cond}
 use mathlib.Core.List.{List}
 use lib.ListN.{length, getD, List·getD-eq-default}
@@ -14,7 +14,7 @@ use Rattle.predictive.proofs.Tests.{never, and-l, and-r}
 use Rattle.aadl.specs.declared.Number.{Number}
 use Rattle.aadl.specs.Bytes.{peek, run, run-end, is-digit, is-exponent, is-grouped, is-based}
 use Rattle.aadl.specs.Tokens.{unbased, exponent-end, based, real, integer, number-of, kind-in, length-in, from-token}
-use Rattle.aadl.specs.NumberParts.{no-number, fits-word, number-parts, All-of, is-dotted, has-base, is-inner, Parts-hold}
+use Rattle.aadl.specs.NumberParts.{no-number, fits-word, number-parts, All-of, is-dotted, is-inner, Parts-hold}
 use Rattle.aadl.proofs.Bools.{cond-has}
 use Rattle.aadl.proofs.RunLaws.{run-byte, run-end-byte, run-end-from}
 use Rattle.aadl.proofs.TokenBounds.{exponent-end-upto, hash-upto, number-cases, number-upto}

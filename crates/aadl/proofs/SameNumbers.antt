@@ -11,7 +11,6 @@ use lib.Seq.{drop-append-le, take-append-le}
 use lib.Dec.{eqb}
 use borrow.Author.Tests.{eqb-true}
 use Rattle.predictive.proofs.Tests.{and-false-l, and-false-r}
-use Rattle.aadl.specs.Kinds.{ERROR, INTEGER-LIT, #_}
 use Rattle.aadl.specs.Bytes.{peek, run, run-end, is-digit, is-ident-continue, is-exponent, is-grouped, is-based}
 use Rattle.aadl.specs.declared.Number.{Number}
 use Rattle.aadl.specs.Tokens.{exponent-end, radix-digit, is-c-style, c-style, based, real, integer, number-from, number-of}

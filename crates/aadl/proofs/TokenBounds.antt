@@ -15,7 +15,7 @@ use Rattle.predictive.specs.Grammar.{has, stand}
 use Rattle.aadl.specs.declared.Token.{Token}
 use Rattle.aadl.specs.declared.Quoted.{Quoted}
 use Rattle.aadl.specs.declared.Number.{Number}
-use Rattle.aadl.specs.Kinds.{ERROR, WHITESPACE, COMMENT, INTEGER-LIT, REAL-LIT, STRING-LIT, IDENT, #_}
+use Rattle.aadl.specs.Kinds.{ERROR, WHITESPACE, COMMENT, INTEGER-LIT, REAL-LIT, IDENT, #_}
 use Rattle.aadl.specs.Words.{bytes, words, table, numbered, find, same, kind-of-word}
 use Rattle.aadl.specs.Bytes.{peek, run, run-end}
 use Rattle.aadl.specs.Bytes.{is-whitespace, is-digit, is-ident-start, is-ident-continue, is-exponent, is-sign, is-grouped, is-based, not-lf}

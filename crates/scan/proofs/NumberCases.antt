@@ -17,6 +17,8 @@ use Rattle.aadl.proofs.Bools.{false-unless}
 use Rattle.aadl.proofs.ByteClasses.{other-byte, radix-word}
 use Rattle.aadl.specs.declared.Number.{Number}
 use Rattle.aadl.specs.Kinds.{#_, INTEGER-LIT, REAL-LIT}
+use Rattle.cursor.specs.declared.Window.{Window}
+use Rattle.cursor.specs.Window.{window-of}
 use Rattle.aadl.specs.Bytes.{peek, is-digit, is-ident-continue, is-exponent, is-sign, is-grouped, is-based, run, run-end}
 use Rattle.aadl.specs.Tokens.{span, number, unbased, exponent-end, radix-digit, c-style, based, real, integer, number-from}
 
@@ -120,6 +122,10 @@ pub record Digits (s : List ℕ) (at d m c : ℕ) : Type 0 where
   pub ends : at + (d - at) ≡ d
   pub here : m ≡ peek s d
   pub next : c ≡ peek s (d + 1)
+
+-- as a window there shows it
+pub digits-by-window : (s : List ℕ) (at d : ℕ) (w : Window) → at < d → w ≡ window-of s d → Digits s at d (w .first) (w .second)
+digits-by-window s at d w h e = record { ends = omega (arith, h); here = ap (λ (w : Window). w .first) e; next = ap (λ (w : Window). w .second) e }
 
 module _ {s : List ℕ} {at d m c : ℕ} (z : Digits s at d m c) where
   here : peek (drop at s) (d - at) ≡ m

@@ -1,7 +1,7 @@
 -- The library's call gives the length, the sum of the lengths before it the start; both are told (Telling). Assumes nothing.
 use Prim.Native.Nat.{ℕ}
 use mathlib.Core.Path.{ap, ap₂, _∙_}
-use mathlib.Core.List.{List, [], _∷_}
+use mathlib.Core.List.{[], _∷_}
 use lib.ListN.{length}
 use Rattle.lexer.specs.Filling.{write}
 use Rattle.capi.specs.Numbers.{part-told}

@@ -95,18 +95,19 @@ by-tests q =
     digit-there text (a .words .now) (a .number) (ap is-digit (first (e .before) ∙ e .before .peek .ensures) ∙ digit e)
     ∙ (λ j. cond (eqb (same j .kind) (kind j) && eqb (same j .len) (len j)) (same j) no-number)
 
-returns-3 : tie.Need-returns-3
-returns-3 c =
-    let a = c .before .before .before .before .before .before .before .before .before .before .before .before .before .before .before .before .before .args in
-    told (a .src .now) (a .words .now) (a .number) _ (sym (by-tests (c .before) ∙ rw (c .if3 .taken) refl))
-
-returns-4 : tie.Need-returns-4
-returns-4 c =
-    let a = c .before .before .before .before .before .before .before .before .before .before .before .before .before .before .before .before .before .args in
-    told (a .src .now) (a .words .now) (a .number) no-number (sym (by-tests (c .before) ∙ rw (c .if3 .left) refl))
+-- what a test's result makes of it
+chosen : (q : tie.After-struct-known2) (t : Bool) →
+    let n = q .before .before .before .before .before .number-from .result in
+    (eqb (n .kind) (q .before .before .before .kind-in .result) && eqb (n .len) (q .before .length-in .result)) ≡ t →
+    let a = q .before .before .before .before .before .before .before .before .before .before .before .before .before .before .before .before .args in
+    (cond t n no-number ≡ number-parts (a .src .now) (a .words .now) (a .number)) × Parts-hold (from-token (a .src .now) (a .words .now) (a .number)) (cond t n no-number)
+chosen q t e =
+    let a = q .before .before .before .before .before .before .before .before .before .before .before .before .before .before .before .before .args in
+    let n = q .before .before .before .before .before .number-from .result in
+    told (a .src .now) (a .words .now) (a .number) (cond t n no-number) (sym (by-tests q ∙ ap (λ (b : Bool). cond b n no-number) e))
 
 pub number-parts-spec : {M : Type 1} → statement M
 number-parts-spec =
     tie.close
     (tie.spec returns (λ c κs. search needs) (λ c κs. search needs) returns-2 (λ c κs. search needs) (λ c κs. search needs) begins (λ c. search needs) (λ c. search needs) (λ c κs. search needs)
-    (λ c κs. search needs) returns-3 returns-4)
+    (λ c κs. search needs) (λ c. chosen (c .before) true (c .if3 .taken)) (λ c. chosen (c .before) false (c .if3 .left)))

@@ -16,7 +16,7 @@ use Rattle.aadl.proofs.RunLaws.{run-end-from, run-rest}
 use Rattle.aadl.proofs.TokenBounds.{inside}
 use Rattle.cursor.specs.declared.Window.{Window}
 use Rattle.classes.specs.Classes.{member}
-use Rattle.scan.proofs.NumberCases.{Digits, c-style-test, c-style-number, based-number, dotted-number, exponent-number, plain-number}
+use Rattle.scan.proofs.NumberCases.{Digits, digits-by-window, c-style-test, c-style-number, based-number, dotted-number, exponent-number, plain-number}
 use borrow.Author.Needs.{needs}
 use Rattle.scan.proofs.number_from.Statement.{statement}
 use Rattle.scan.proofs.number_from.Tie as tie
@@ -38,9 +38,7 @@ end-from : (q : tie.After-is-c-style) → at q < end q
 end-from q = q .before .before .before .before .pre .0
 
 digits : (q : tie.After-is-c-style) → Digits (text q) (at q) (end q) (window q .first) (window q .second)
-digits q =
-    let w = q .before .before .window-at .ensures in
-    record { ends = omega (arith, end-from q); here = ap (λ (w : Window). w .first) w; next = ap (λ (w : Window). w .second) w }
+digits q = digits-by-window (text q) (at q) (end q) (window q) (end-from q) (q .before .before .window-at .ensures)
 
 -- a byte that is tested for stands in the text
 stands : (q : tie.After-is-c-style) (p : ℕ → Bool) → p 0 ≡ false → p (window q .first) ≡ true → end q + 1 ≤ length (text q)

@@ -2,7 +2,7 @@
 use Prim.Native.Nat.{_+_, _-_, _≤_}
 use mathlib.Core.Path.{_≡_, sym, ap, _∙_}
 use mathlib.Core.Logic.{⊎-elim}
-use mathlib.Core.Bool.{Bool, true, false, _||_, cond}
+use mathlib.Core.Bool.{_||_, cond}
 use native.Mathlib.Omega.{arith}
 use lib.ListN.{take, drop}
 use lib.Dec.{eqb}
@@ -14,7 +14,6 @@ use Rattle.aadl.specs.Tokens.{span, number}
 use Rattle.aadl.proofs.RunLaws.{run-end-from}
 use Rattle.aadl.proofs.TokenBounds.{hash-upto, exponent-end-upto}
 use Rattle.scan.proofs.NumberCases.{based-at}
-use borrow.Author.Tests.{eq-eqb, ne-eqb}
 use borrow.Author.Needs.{needs}
 use Rattle.scan.proofs.scan_based.Statement.{statement}
 use Rattle.scan.proofs.scan_based.Tie as tie

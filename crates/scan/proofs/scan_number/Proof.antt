@@ -1,6 +1,6 @@
 -- The byte behind the digits rules all cases out but one, or `number_from` goes through them (NumberCases). Assumes nothing.
-use Prim.Native.Nat.{ℕ, _+_, _-_, _≤_}
-use mathlib.Core.Path.{_≡_, refl, sym, ap, subst, _∙_}
+use Prim.Native.Nat.{ℕ, _+_, _-_, _≤_, _<_}
+use mathlib.Core.Path.{_≡_, refl, sym, ap, _∙_}
 use mathlib.Core.Bool.{Bool, true, false, not, _&&_, _||_}
 use mathlib.Core.List.{List}
 use native.Mathlib.Omega.{arith}
@@ -15,7 +15,7 @@ use Rattle.aadl.proofs.TokenBounds.{inside}
 use Rattle.cursor.specs.declared.Window.{Window}
 use Rattle.classes.specs.Classes.{member}
 use Rattle.scan.proofs.FirstByte.{digit-run}
-use Rattle.scan.proofs.NumberCases.{Digits, whole, c-style-test, dotted-number, plain-number, integer-behind}
+use Rattle.scan.proofs.NumberCases.{Digits, digits-by-window, whole, c-style-test, dotted-number, plain-number, integer-behind}
 use borrow.Author.Needs.{needs}
 use Rattle.scan.proofs.scan_number.Statement.{statement}
 use Rattle.scan.proofs.scan_number.Tie as tie
@@ -33,14 +33,12 @@ end q = q .before .before .run-end .result
 abbrev window : tie.After-struct-known → Window
 window q = q .before .window-at .result
 
-end-from : (q : tie.After-struct-known) → at q + 1 ≤ end q
+end-from : (q : tie.After-struct-known) → at q < end q
 unfolding member
 end-from q = omega (arith, q .before .before .run-end .ensures .0, run-end-from is-digit (text q) (at q + 1))
 
 digits : (q : tie.After-struct-known) → Digits (text q) (at q) (end q) (window q .first) (window q .second)
-digits q =
-    let w = q .before .window-at .ensures in
-    record { ends = omega (arith, end-from q); here = ap (λ (w : Window). w .first) w; next = ap (λ (w : Window). w .second) w }
+digits q = digits-by-window (text q) (at q) (end q) (window q) (end-from q) (q .before .window-at .ensures)
 
 -- the number that so many digits begin
 counted : (q : tie.After-struct-known) → whole (digits q) ≡ number-of (drop (at q) (text q))
