@@ -30,15 +30,6 @@ write-more (n ∷ ns) (o ∷ old) zero h = refl
 write-more (n ∷ ns) [] (suc i) h = refl
 write-more (n ∷ ns) (o ∷ old) (suc i) h = ap (λ (l : List ℕ). n ∷ l) (write-more ns old i (le-of-suc-le-suc h))
 
--- what is not lent is written nowhere
-pub write-most : (ns old : List ℕ) (i : ℕ) → length old ≤ i → write (take i ns) old ≡ write ns old
-write-most [] old zero h = refl
-write-most [] old (suc i) h = refl
-write-most (n ∷ ns) [] zero h = refl
-write-most (n ∷ ns) [] (suc i) h = refl
-write-most (n ∷ ns) (o ∷ old) zero h = absurd (not-suc-le-zero h)
-write-most (n ∷ ns) (o ∷ old) (suc i) h = ap (λ (l : List ℕ). n ∷ l) (write-most ns old i (le-of-suc-le-suc h))
-
 -- A TOKEN'S TEXT -------------------------------------------------------------------------------------------------------
 
 module _ (text words : List ℕ) (i : ℕ) where

@@ -3,7 +3,7 @@
 
 use aadl::Answer;
 ghost use mathlib.Core.Path.{_≡_};
-ghost use lib.ListN.{length};
+ghost use lib.ListN.{length, set};
 ghost use Rattle.aadl.specs.Limits.{base};
 ghost use Rattle.aadl.specs.Tokens.{from-token, token-text};
 ghost use Rattle.aadl.specs.NumberParts.{number-parts, Parts-hold};
@@ -14,16 +14,22 @@ ghost use Rattle.aadl.specs.Records.{record-words, tree-answer, Recorded};
 ghost use Rattle.lexer.specs.Filling.{write};
 ghost use Rattle.capi.specs.Numbers.{told, tree-told, text-start, part-told, part-of, parts-told};
 
+// Sets a number if it is lent.
+fn put(lent: &mut [usize], at: usize, n: usize)
+    ensures { λ r. ⌜ now (lent .exit) ≡ set (now (lent .entry)) at n ⌝ }
+{
+    if at < lent.len() {
+        lent[at] = n;
+    }
+}
+
 // Writes numbers over lent ones, as many as are lent.
 fn tell(lent: &mut [usize], numbers: &[usize])
     ensures { λ r. ⌜ now (lent .exit) ≡ write (now (numbers .entry)) (now (lent .entry)) ⌝ }
 {
     let mut i = 0;
     while i < numbers.len() {
-        if lent.len() <= i {
-            return;
-        }
-        lent[i] = numbers[i];
+        put(lent, i, numbers[i]);
         i += 1;
     }
 }
