@@ -1,6 +1,6 @@
 // The lexer's scanners, one for each sort of token, with the Rust's names, on the text and a position: each gives the token that begins
-// there, as aadl's `token-of` has it. `scan_token` goes by the first byte to the scanner of its sort, which asks for such a byte and does
-// not look at it again. The tables are lent, as in `classes`.
+// there, as aadl's `token-of` has it, the one for numbers all of the number. `scan_token` goes by the first byte to the scanner of its sort,
+// which asks for such a byte and does not look at it again. The tables are lent, as in `classes`.
 
 use aadl::Number;
 use aadl::Quoted;
