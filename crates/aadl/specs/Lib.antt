@@ -13,4 +13,5 @@ pub mod Reading
 pub mod Answers
 pub mod Demand
 pub mod Records
+pub mod Values
 pub mod Listing

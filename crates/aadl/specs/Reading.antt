@@ -1,9 +1,10 @@
 -- The reading of a text's symbols, and what is derived. Assumes nothing.
 use Prim.Native.Nat.{ℕ, suc}
 use mathlib.Core.Path.{_≡_}
-use mathlib.Core.Bool.{Bool, false}
+use mathlib.Core.Bool.{Bool, false, not, _&&_}
 use mathlib.Core.List.{List, [], _∷_}
 use lib.ListN.{length}
+use lib.Dec.{eqb}
 use Rattle.predictive.specs.Forest.{Forest, tree, message, refusal}
 use Rattle.predictive.specs.Grammar.{Derives}
 use Rattle.predictive.specs.Reader.{Result, read}
@@ -36,6 +37,10 @@ too-deep limits xs = erring stops (events limits xs)
 pub record Clean (limits : Limits) (xs : List ℕ) : Type 0 where
   pub no-error : erring any-fault (events limits xs) ≡ false
   pub all-taken : taken (events limits xs) ≡ length xs
+
+-- The same as a test.
+unfoldable pub reads-cleanly : Limits → List ℕ → Bool
+reads-cleanly limits xs = not (erring any-fault (events limits xs)) && eqb (taken (events limits xs)) (length xs)
 
 -- A derivation of kinds: a tree that 01's literal grammar derives from all of them.
 abbrev pub Derivation : (kinds : List ℕ) → (t : Forest) → Type 0

@@ -51,3 +51,9 @@ pub struct TreeAnswer {
     pub answer: Answer,
     pub records: usize,
 }
+
+// What the value call answers: what the section call does, and the value.
+pub struct ValueAnswer {
+    pub answer: Answer,
+    pub value: i64,
+}
