@@ -148,7 +148,7 @@ module _ (K : ℕ → Bool) (Q : Fault → Bool) where
         go true r = subst (λ (o : Option Form). OptionFits o) r (g e refl)
         go false r = subst (λ (o : Option Form). OptionFits o) r f
 
-    best-fits : (cs : List Form) (xs : List ℕ) (c : Form) → forms-fit cs ≡ true → best cs xs ≡ some c → form-fits c ≡ true
+    pub best-fits : (cs : List Form) (xs : List ℕ) (c : Form) → forms-fit cs ≡ true → best cs xs ≡ some c → form-fits c ≡ true
     unfolding best forms-fit
     best-fits [] xs c f q = subst (λ (o : Option Form). OptionFits o) q tt
     best-fits (d ∷ cs) xs c f q = go (stand (kinds-of d) xs) q (λ e r. best-fits cs xs e (right _ _ f) r)

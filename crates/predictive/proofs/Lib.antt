@@ -16,4 +16,6 @@ pub mod Takes
 pub mod Bounds
 pub mod Replaced
 pub mod Spell
+pub mod Consumed
+pub mod Absent
 pub mod Examples
