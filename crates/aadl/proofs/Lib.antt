@@ -28,6 +28,7 @@ pub mod RecordsUpwards
 pub mod Computing
 pub mod Examples
 pub mod RecordExamples
+pub mod ValueExamples
 pub mod SameRuns
 pub mod SameNumbers
 pub mod SameMarks
