@@ -1,0 +1,4 @@
+pub mod Signs
+pub mod Ranges
+pub mod Products
+pub mod Casts
