@@ -20,9 +20,9 @@ pub by-zero : (a b : ℕ) → a ≡ 0 → leb (a * b) most ≡ true
 by-zero zero b e = le-leb (zero * b) most (omega arith)
 by-zero (suc a) b e = absurd (omega arith)
 
--- Factors whose squares are at most the greatest size.
-pub by-roots : (a b : ℕ) → (leb a 3037000499 && leb b 3037000499) ≡ true → leb (a * b) most ≡ true
-by-roots a b e =
-    let h : a ≤ 3037000499 = leb-true a 3037000499 (and-l (leb a 3037000499) (leb b 3037000499) e) in
-    let k : b ≤ 3037000499 = leb-true b 3037000499 (and-r (leb a 3037000499) (leb b 3037000499) e) in
-    le-leb (a * b) most (omega (arith, mul-le-mul h k))
+-- Factors up to a number whose square is at most the greatest size.
+pub by-roots : (root a b : ℕ) → (leb a root && leb b root) ≡ true → leb (root * root) most ≡ true → leb (a * b) most ≡ true
+by-roots root a b e t =
+    let h : a ≤ root = leb-true a root (and-l (leb a root) (leb b root) e) in
+    let k : b ≤ root = leb-true b root (and-r (leb a root) (leb b root) e) in
+    le-leb (a * b) most (omega (arith, mul-le-mul h k, leb-true (root * root) most t))

@@ -11,18 +11,16 @@ use borrow.Author.Needs.{needs}
 use Rattle.wholes.proofs.multiply.Statement.{statement}
 use Rattle.wholes.proofs.multiply.Tie as tie
 
-fitted-requires : tie.Need-fitted-requires
-fitted-requires c κs =
+at-most : (c : tie.After-struct-known4) →
+    let a = c .before .before .before .before .before .before .args in
+    a .x .size * a .y .size ≤ most
+at-most c =
     let p = c .before .before .before .before in
     let a = p .before .before .args in
     leb-true (a .x .size * a .y .size) most (sym (p .before .product-fits .ensures) ∙ p .if1 .taken)
 
 mul-fitted : tie.Need-mul-fitted
-mul-fitted c =
-    let p = c .before .before .before .before in
-    let a = p .before .before .args in
-    let h : a .x .size * a .y .size ≤ most = leb-true (a .x .size * a .y .size) most (sym (p .before .product-fits .ensures) ∙ p .if1 .taken) in
-    record { fits = omega arith }
+mul-fitted c = record { fits = omega (arith, at-most c) }
 
 returns : tie.Need-returns
 returns c =
@@ -38,4 +36,4 @@ returns-2 c =
     (c .beyond .ensures)
 
 pub multiply-spec : {M : Type 1} → statement M
-multiply-spec = tie.close (tie.spec (λ c κs. search needs) mul-fitted fitted-requires returns (λ c κs. search needs) returns-2)
+multiply-spec = tie.close (tie.spec (λ c κs. search needs) mul-fitted (λ c κs. at-most c) returns (λ c κs. search needs) returns-2)
