@@ -12,6 +12,7 @@ use lib.IntN.{ℤ, pos, negsuc, negℤ, _+ℤ_, _-ℤ_, _*ℤ_}
 use lib.Signed.{leZ}
 use Rattle.predictive.specs.Forest.{Forest, nil, leaf, err, node, wrap, leaves}
 use Rattle.predictive.specs.Tree.{spell}
+use Rattle.aadl.specs.declared.Number.{Number}
 use Rattle.aadl.specs.declared.Answer.{Answer}
 use Rattle.aadl.specs.declared.ValueAnswer.{ValueAnswer}
 use Rattle.aadl.specs.Limits.{Limits}
@@ -57,13 +58,15 @@ in-written-base base closed ds = cond ((leb 2 base && leb base 16) && closed) (i
 abbrev pub part : (begin end : ℕ) → List ℕ → List ℕ
 part i e bs = take (e - i) (drop i bs)
 
--- The number of the INTEGER_LIT that some bytes begin with, by its parts; none where it breaks a rule of its form.
-unfoldable pub literal-number : List ℕ → Option ℕ
-literal-number bs =
-    let n = number-of bs in
+-- The number of an INTEGER_LIT that some bytes begin with, by its parts; none where it breaks a rule of its form.
+abbrev pub number-by-parts : List ℕ → Number → Option ℕ
+number-by-parts bs n =
     let ds = digits (part (n .inner .begin) (n .inner .end) bs) in
     cond (eqb (n .base .end) 0) (in-base 10 ds)
     (in-written-base (number-by 10 0 (digits (part (n .base .begin) (n .base .end) bs))) (n .closed) ds)
+
+unfoldable pub literal-number : List ℕ → Option ℕ
+literal-number bs = number-by-parts bs (number-of bs)
 
 -- The same, by the number of a non-trivia token of a text.
 unfoldable pub number-at : (text : List ℕ) → (token : ℕ) → Option ℕ

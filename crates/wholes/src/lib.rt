@@ -21,7 +21,7 @@ pub struct Checked {
 }
 
 // The greatest size: that of the least number. No positive number of the range has it.
-const MOST: u64 = 9223372036854775808;
+pub const MOST: u64 = 9223372036854775808;
 
 // The greatest number whose square is at most MOST.
 const ROOT: u64 = 3037000499;
