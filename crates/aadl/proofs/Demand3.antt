@@ -40,7 +40,7 @@ none-left [] h = refl
 none-left (y ∷ ys) h = absurd (not-suc-le-zero h)
 
 module _ (limits : Limits) (xs : List ℕ) where
-  abbrev Derived : Forest → Type 0
+  abbrev pub Derived : Forest → Type 0
   Derived f = Derives grammar section f xs []
 
   -- A clean reading is a forest without a fault and leaves nothing, so it is derived.
@@ -70,7 +70,7 @@ module _ (limits : Limits) (xs : List ℕ) where
   derived-reading f n d = ⊎-elim (λ (e : amiss stops (reading limits xs) ≡ true). never (sym (not-deep n) ∙ e)) (λ e. e) (derived-read-or-deep f d)
 
   -- The events of what is derived are its forest's.
-  derived-events : (f : Forest) → too-deep limits xs ≡ false → Derived f → events limits xs ≡ Events.events f 0
+  pub derived-events : (f : Forest) → too-deep limits xs ≡ false → Derived f → events limits xs ≡ Events.events f 0
   unfolding events events-of
   derived-events f n d = ap events-of (derived-reading f n d)
 
@@ -91,7 +91,7 @@ pub record Demand-3 (limits : Limits) (xs ks : List ℕ) : Type 0 where
 from-kinds : {ks : List ℕ} {t : Forest} (d : Derivation ks t) → Derives grammar section (d .0) ks []
 from-kinds {ks} d = read-is-literal (d .0) ks .1 (d .1)
 
-from-symbols : {xs : List ℕ} {t : Forest} (d : Derivation (map shown xs) t) → Derives grammar section (d .0) xs []
+pub from-symbols : {xs : List ℕ} {t : Forest} (d : Derivation (map shown xs) t) → Derives grammar section (d .0) xs []
 from-symbols {xs} d = read-is-literal (d .0) xs .1 (derives-unmarked (d .0) xs .1 (d .1))
 
 -- Two derivations of the same kinds are the same tree, with no condition on depth.

@@ -128,7 +128,7 @@ unclosed-never-derived text f t d =
     ⊎-elim (λ e. omega (arith, is, e)) (λ e. omega (arith, is, e)) (section-ends (d .0) (kinds text) (d .1) 0)
 
 -- an event list without an Error has no refusal
-no-stop : (es : List Event) → erring any-fault es ≡ false → erring stops es ≡ false
+pub no-stop : (es : List Event) → erring any-fault es ≡ false → erring stops es ≡ false
 unfolding erring
 no-stop [] e = refl
 no-stop (start k up ∷ es) e = no-stop es e

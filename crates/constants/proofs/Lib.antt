@@ -1,0 +1,5 @@
+pub mod Parts
+pub mod Operands
+pub mod Sums
+pub mod FirstValues
+pub mod Trees

@@ -1,7 +1,7 @@
 -- A part that names no node of a kind derives no forest with such a node; the test of a part is that of `Bounds`, with every message within
 -- bounds. By induction over the derivation. Assumes nothing.
 use Prim.Native.Nat.{ℕ}
-use mathlib.Core.Path.{_≡_, refl}
+use mathlib.Core.Path.{_≡_}
 use mathlib.Core.Bool.{Bool, true, not}
 use mathlib.Core.List.{List, [], _∷_}
 use lib.Dec.{eqb}
