@@ -9,7 +9,7 @@ use mathlib.Core.Option.{none, some}
 use lib.ListN.{length, take, drop}
 use lib.Seq.{drop-drop}
 use lib.Dec.{leb, ltb, eqb}
-use borrow.Author.Tests.{leb-true, leb-false, lt-ltb, le-ltb, ltb-true, ltb-false, ne-eqb}
+use borrow.Author.Tests.{leb-true, leb-false, le-leb, lt-leb, lt-ltb, le-ltb, ltb-true, ltb-false, ne-eqb}
 use Rattle.predictive.proofs.Tests.{never}
 use Rattle.aadl.specs.Bytes.{peek, is-digit}
 use Rattle.aadl.specs.NumberParts.{All-of}
@@ -113,10 +113,13 @@ digits-end s i to h = ap digits (from-end i to s h)
 pub literal-told : (base : ℕ) (ds : List ℕ) (r : Digits) → Digits-of base ds r → Literal-of (in-base base ds) (record { good = r .any && r .below; size = r .size })
 literal-told base ds r x = by (ltb 0 (length ds)) (all-below base ds) refl refl
   where
+    both : {t u : Bool} → ltb 0 (length ds) ≡ t → all-below base ds ≡ u → (r .any && r .below) ≡ (t && u)
+    both e f = λ i. (x .any ∙ e) i && (x .below ∙ f) i
+
     by : (t u : Bool) → ltb 0 (length ds) ≡ t → all-below base ds ≡ u → Literal-of (cond (t && u) (some (number-by base 0 ds)) none) (record { good = r .any && r .below; size = r .size })
-    by true true e f = is-some (rw (x .any ∙ e, x .below ∙ f) refl) (x .size (x .below ∙ f))
-    by true false e f = is-none (rw (x .any ∙ e, x .below ∙ f) refl)
-    by false u e f = is-none (rw (x .any ∙ e) refl)
+    by true true e f = is-some (both e f) (x .size (x .below ∙ f))
+    by true false e f = is-none (both e f)
+    by false u e f = is-none (both e f)
 
 -- The digits of a part from a place on are those of the part of all.
 pub part-from : (s : List ℕ) (at i e : ℕ) → part (at + i) (at + e) s ≡ part i e (drop at s)
@@ -144,3 +147,19 @@ decimals-below (suc k) bs i e h l a = by (ltb i e) refl (decimals-below k bs (i 
         ap (all-below 10) (digits-more bs i e here (omega (arith, here, l)) (d .1))
         ∙ ap (λ (t : Bool). t && all-below 10 (digits (part (i + 1) e bs))) (lt-ltb (digit-of (peek bs i)) 10 (d .0))
         ∙ r
+
+-- A number that is cut at the cap is between two small ones exactly if it is between them whole, and then it is not cut.
+pub cut-between : (n k : ℕ) → k ≡ min n most → (leb 2 k && leb k 16) ≡ (leb 2 n && leb n 16)
+cut-between n k e = by (leb n most) refl
+  where
+    by : (t : Bool) → leb n most ≡ t → (leb 2 k && leb k 16) ≡ (leb 2 n && leb n 16)
+    by true f =
+        let q : k ≡ n = omega (arith, e, leb-true n most f) in
+        ap (λ (m : ℕ). leb 2 m && leb m 16) q
+    by false f =
+        let h = leb-false n most f in
+        let far : k ≡ most = omega (arith, e, h) in
+        ap (λ (m : ℕ). leb 2 m && leb m 16) far ∙ sym (λ i. le-leb 2 n (omega (arith, h)) i && lt-leb n 16 (omega (arith, h)) i)
+
+pub not-cut : (n k : ℕ) → k ≡ min n most → (leb 2 k && leb k 16) ≡ true → k ≡ n
+not-cut n k e t = omega (arith, e, bounds 2 16 k t .1)
