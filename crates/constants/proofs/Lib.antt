@@ -3,3 +3,7 @@ pub mod Operands
 pub mod Sums
 pub mod FirstValues
 pub mod Trees
+pub mod Ahead
+pub mod Steps
+pub mod Outcomes
+pub mod Passing

@@ -47,7 +47,7 @@ module _ (number-of-token : ℕ → Option ℕ) where
 
   -- WHERE NO OPERAND OF A CONSTANT BEGINS ------------------------------------------------------------------------------
 
-  abbrev operand-marks : List Head
+  abbrev pub operand-marks : List Head
   operand-marks = heads (INTEGER-LIT ∷ PLUS ∷ MINUS ∷ [])
 
   not-here : (i : ℕ) (m : Bool) (s p : Pending) (k : State → Option Outcome) (a b c d : Bool) →
@@ -58,7 +58,7 @@ module _ (number-of-token : ℕ → Option ℕ) where
   not-here i m s p k false false false true = refl
   not-here i m s p k false false false false = refl
 
-  none-begins : (i : ℕ) (xs : List ℕ) (m : Bool) (s p : Pending) → at operand-marks xs ≡ false → pass-on i xs (expects m s p) ≡ none
+  pub none-begins : (i : ℕ) (xs : List ℕ) (m : Bool) (s p : Pending) → at operand-marks xs ≡ false → pass-on i xs (expects m s p) ≡ none
   unfolding pass ones
   none-begins i [] m s p e = refl
   none-begins i (x ∷ xs) m s p e =

@@ -48,7 +48,7 @@ outcome o = given o (λ c. some (value c))
 abbrev pub goes-on : List Head
 goes-on = heads (PLUS ∷ MINUS ∷ STAR ∷ SLASH ∷ DOT-DOT ∷ IDENT ∷ [])
 
-abbrev star : List Head
+abbrev pub star : List Head
 star = heads (STAR ∷ [])
 
 module _ (number-of-token : ℕ → Option ℕ) where
@@ -139,7 +139,7 @@ module _ (number-of-token : ℕ → Option ℕ) where
   settled-mark i s q k false false false false false false = refl
 
   -- Where no `*` follows, the product is complete, and so is the sum.
-  settled : (i : ℕ) (xs : List ℕ) (s : Pending) (q : Outcome) → at star xs ≡ false → pass-on i xs (behind s q) ≡ pass-on i xs (behind nothing (completed s q))
+  pub settled : (i : ℕ) (xs : List ℕ) (s : Pending) (q : Outcome) → at star xs ≡ false → pass-on i xs (behind s q) ≡ pass-on i xs (behind nothing (completed s q))
   unfolding pass ones
   settled i [] s q e = refl
   settled i (x ∷ xs) s q e =
@@ -193,7 +193,7 @@ module _ (number-of-token : ℕ → Option ℕ) where
   ended-mark i q k false = refl
 
   -- Where nothing goes on, the pass is at its end.
-  ended : (i : ℕ) (xs : List ℕ) (q : Outcome) → at goes-on xs ≡ false → pass-on i xs (behind nothing q) ≡ some q
+  pub ended : (i : ℕ) (xs : List ℕ) (q : Outcome) → at goes-on xs ≡ false → pass-on i xs (behind nothing q) ≡ some q
   unfolding pass ones
   ended i [] q e = refl
   ended i (x ∷ xs) q e =

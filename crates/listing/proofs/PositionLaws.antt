@@ -25,7 +25,8 @@ use Rattle.parser.specs.declared.Parser.{Parser}
 use Rattle.aadl.specs.Tokens.{kind-in}
 use Rattle.parser.specs.Input.{Input, input, past, skip, after-one, next, new}
 use Rattle.parser.specs.State.{state, going, passed, pass}
-use Rattle.section.proofs.Places.{Behind, behind-byte, new-behind, next-behind}
+use Rattle.section.specs.Standing.{Behind}
+use Rattle.section.proofs.Places.{behind-byte, new-behind, next-behind}
 use Rattle.spots.specs.declared.Spot.{Spot}
 use Rattle.listing.specs.declared.Position.{Position}
 use Rattle.lines.specs.Lines.{header}

@@ -24,7 +24,8 @@ use Rattle.parser.specs.State.{with-stop, one-used, one-more}
 use Rattle.parser.proofs.Emit.{advance}
 use Rattle.parser.proofs.Counters.{advance-stopped}
 use Rattle.section.specs.Replies.{reply}
-use Rattle.section.proofs.Places.{Behind, behind-byte, next-behind}
+use Rattle.section.specs.Standing.{Behind}
+use Rattle.section.proofs.Places.{behind-byte, next-behind}
 
 -- ONE EVENT ------------------------------------------------------------------------------------------------------------
 

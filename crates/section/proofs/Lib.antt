@@ -1,5 +1,6 @@
 pub mod WordsBack
 pub mod Places
+pub mod Passing
 pub mod Advancing
 pub mod Sectioning
 pub mod CleanLaws

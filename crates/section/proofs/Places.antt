@@ -14,27 +14,12 @@ use Rattle.aadl.specs.Symbols.{is-trivia, symbol-of, Placed, placed, symbols, s
 use Rattle.aadl.specs.Answers.{token-words}
 use Rattle.parser.specs.declared.Parser.{Parser}
 use Rattle.parser.specs.declared.Place.{Place}
-use Rattle.parser.specs.Input.{input, token-in, standing, rest, past, skip, after-one, next, new}
+use Rattle.parser.specs.Input.{input, standing, rest, past, skip, after-one, next, new}
+use Rattle.section.specs.Standing.{placed-words, Solid, Stood, Behind}
 use Rattle.section.proofs.WordsBack.{placed-back, total-token-words}
-
--- the non-trivia tokens of words, the first of which starts at a byte
-abbrev pub placed-words : (text : List ℕ) → (byte : ℕ) → (words : List ℕ) → List Placed
-placed-words text b ws = placed text b (map token-in ws)
 
 abbrev symbol-at : (text : List ℕ) → (byte w : ℕ) → Placed
 symbol-at text b w = record { symbol = symbol-of (kind-in w) (peek text b); place = b }
-
--- the first word, if there is one, is no trivia's
-abbrev pub Solid : List ℕ → Type 0
-Solid [] = Unit {0}
-Solid (w ∷ ws) = is-trivia (kind-in w) ≡ false
-
--- Word i, whose token starts at byte b, is the first of the words whose non-trivia tokens are ps; the words from there on reach to
--- the text's end.
-pub record Stood (text ws : List ℕ) (ps : List Placed) (i b : ℕ) : Type 0 where
-  pub tiles : b + total (drop i ws) ≡ length text
-  pub shows : placed-words text b (drop i ws) ≡ ps
-  pub solid : Solid (drop i ws)
 
 module _ (text ws : List ℕ) where
   -- where the words from i on are vs
@@ -107,7 +92,7 @@ module _ (text ws : List ℕ) where
       go (w ∷ vs) t s n = subst (λ (l : List Placed). b ≡ getD (map (λ (p : Placed). p .place) l) 0 (length text)) (sym (placed-solid b w vs n) ∙ s) refl
 
   -- what stands there is all of them
-  stood-symbols : (ps : List Placed) (i b : ℕ) → Stood text ws ps i b → standing text b (drop i ws) ≡ map (λ (p : Placed). p .symbol) ps
+  pub stood-symbols : (ps : List Placed) (i b : ℕ) → Stood text ws ps i b → standing text b (drop i ws) ≡ map (λ (p : Placed). p .symbol) ps
   unfolding standing
   stood-symbols ps i b x = go (drop i ws) (x .shows) (x .solid)
     where
@@ -116,10 +101,6 @@ module _ (text ws : List ℕ) where
       go (w ∷ vs) s n = ap (map (λ (p : Placed). p .symbol)) (sym (placed-solid b w vs n) ∙ s)
 
 -- OF A TEXT ------------------------------------------------------------------------------------------------------------
-
--- The parser p over a text and its token words has k non-trivia tokens behind it.
-pub record Behind (text : List ℕ) (k : ℕ) (p : Parser) : Type 0 where
-  pub where-it-is : Stood text (token-words text) (drop k (placed text 0 (tokens text))) (p .at) (p .byte)
 
 getD-from : (ps : List Placed) (k d : ℕ) → getD (map (λ (p : Placed). p .place) (drop k ps)) 0 d ≡ getD (map (λ (p : Placed). p .place) ps) k d
 getD-from ps zero d = refl

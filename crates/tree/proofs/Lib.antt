@@ -7,6 +7,5 @@ pub mod Sounding
 pub mod Holding
 pub mod Turning
 pub mod Building
-pub mod TokenPlaces
 pub mod Demands
 pub mod Calling

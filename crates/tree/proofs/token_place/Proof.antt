@@ -1,4 +1,4 @@
--- One token is passed at a turn (TokenPlaces). The measure is how many are left to pass. Assumes nothing.
+-- One token is passed at a turn (section's Passing). The measure is how many are left to pass. Assumes nothing.
 use Prim.Native.Nat.{_-_, _≤_}
 use native.Mathlib.Omega.{arith}
 use native.Mathlib.Numerals.{add-one}
@@ -6,7 +6,8 @@ use mathlib.Core.Path.{sym, ap, subst, _∙_}
 use mathlib.Core.List.{[]}
 use borrow.Author.Needs.{needs}
 use Rattle.aadl.specs.Symbols.{start-of}
-use Rattle.tree.proofs.TokenPlaces.{Passed, passed-none, passed-one, passed-place}
+use Rattle.section.specs.Standing.{Passed}
+use Rattle.section.proofs.Passing.{passed-none, passed-one, passed-place}
 use Rattle.tree.proofs.token_place.Statement.{statement}
 use Rattle.tree.proofs.token_place.Tie as tie
 

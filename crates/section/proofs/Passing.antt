@@ -1,4 +1,4 @@
--- A parser that is passed over a text's tokens, one by one, stands at the start of the next (section's Places). Assumes nothing.
+-- A parser that is passed over a text's tokens, one by one, stands at the start of the next (Places). Assumes nothing.
 use Prim.Native.Nat.{ℕ, suc, _<_}
 use mathlib.Core.Path.{_≡_, refl, sym, ap, subst, _∙_}
 use mathlib.Core.Bool.{Bool, cond}
@@ -11,12 +11,8 @@ use Rattle.parser.specs.declared.Parser.{Parser}
 use Rattle.parser.specs.Input.{Input, input, new}
 use Rattle.parser.specs.State.{State, state, going, passed, pass}
 use Rattle.parser.specs.Reads.{Ran}
-use Rattle.section.proofs.Places.{Behind, behind-byte, new-behind, next-behind}
-
--- The parser p goes on, with k non-trivia tokens of the text behind it.
-pub record Passed (text : List ℕ) (k : ℕ) (p : Parser) : Type 0 where
-  pub goes : p .stop ≡ 0
-  pub behind : Behind text k p
+use Rattle.section.specs.Standing.{Passed}
+use Rattle.section.proofs.Places.{behind-byte, new-behind, next-behind}
 
 module _ (text ws : List ℕ) (w : ws ≡ token-words text) where
   pub passed-none : (p : Parser) (l : ℕ) → length text < 65536 → p ≡ new (input text ws) l → Passed text 0 p
