@@ -36,8 +36,20 @@ module _ {A : Type 0} (refusing : (number place : ℕ) → A) where
   checks-pass [] ds a f = refl
   checks-pass (check n case p ∷ cs) ds a f = rw (f .0) (checks-pass cs ds a (f .1))
 
-  pub first-refuses : (number : A → ℕ) (cs ds : List Check) (a b : A) → number a ≡ 0 → (number (checked refusing cs a) ≡ 0 → ⊥) →
-      checked refusing (cs ++ ds) b ≡ checked refusing cs a
-  first-refuses number [] ds a b e f = absurd (f e)
-  first-refuses number (check n true p ∷ cs) ds a b e f = refl
-  first-refuses number (check n false p ∷ cs) ds a b e f = first-refuses number cs ds a b e f
+-- Checks that refuse in one form of answer refuse alike in another, whatever follows.
+module _ {A B : Type 0} (refusing : (number place : ℕ) → A) (refusing-too : (number place : ℕ) → B) (number : A → ℕ) (alike : A → B)
+    (same : (n p : ℕ) → refusing-too n p ≡ alike (refusing n p)) where
+  pub refuses-alike : (cs ds : List Check) (a : A) (b : B) → number a ≡ 0 → (number (checked refusing cs a) ≡ 0 → ⊥) →
+      checked refusing-too (cs ++ ds) b ≡ alike (checked refusing cs a)
+  refuses-alike [] ds a b e f = absurd (f e)
+  refuses-alike (check n true p ∷ cs) ds a b e f = same n p
+  refuses-alike (check n false p ∷ cs) ds a b e f = refuses-alike cs ds a b e f
+
+-- Of checks that all fail, the first ones do, and the others.
+pub first-fail : (cs ds : List Check) → Each Fails (cs ++ ds) → Each Fails cs
+first-fail [] ds h = tt
+first-fail (c ∷ cs) ds h = (h .0, first-fail cs ds (h .1))
+
+pub last-fail : (cs ds : List Check) → Each Fails (cs ++ ds) → Each Fails ds
+last-fail [] ds h = h
+last-fail (c ∷ cs) ds h = last-fail cs ds (h .1)

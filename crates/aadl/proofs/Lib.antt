@@ -24,6 +24,7 @@ pub mod EventWords
 pub mod AnswerDerived
 pub mod RecordLaws
 pub mod TreeAnswers
+pub mod ValueAnswers
 pub mod RecordsUpwards
 pub mod Computing
 pub mod Examples

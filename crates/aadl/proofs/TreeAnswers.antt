@@ -4,7 +4,6 @@
 use Prim.Native.Nat.{ℕ, suc, _≤_, _<_}
 use native.Mathlib.Omega.{arith}
 use mathlib.Core.Path.{_≡_, refl, sym, ap, subst, _∙_}
-use mathlib.Core.Bool.{true, false}
 use mathlib.Core.List.{List, [], _∷_, _++_, map, append-nil}
 use lib.ListN.{length, getD, drop}
 use borrow.Author.Tests.{lt-ltb, le-ltb, ltb-false}
@@ -25,13 +24,12 @@ use Rattle.aadl.specs.Symbols.{shown, symbols, start-of}
 use Rattle.aadl.specs.Section.{grammar, section}
 use Rattle.aadl.specs.Encoding.{room}
 use Rattle.aadl.specs.Reading.{reading, events}
-use Rattle.aadl.specs.Answers.{Check, check, text-checks, section-checks, refused, checked, all-answered, section-answer, left-in, token-words, event-words}
+use Rattle.aadl.specs.Answers.{Check, text-checks, section-checks, refused, checked, all-answered, section-answer, left-in, token-words, event-words}
 use Rattle.aadl.specs.Demand.{answered-events, Read-as-derived}
 use Rattle.aadl.specs.Records.{Record, records, record-room, text-records, record-words, tree-checks, with-records, tree-refused, all-recorded, tree-answer, answered-records, Recorded}
-use Rattle.aadl.proofs.Lists.{Each}
 use Rattle.aadl.proofs.SectionTest.{tables, grammar-fine, section-good}
 use Rattle.aadl.proofs.Demand3.{demand-3}
-use Rattle.aadl.proofs.Checks.{Fails, fails-by, checks-pass}
+use Rattle.aadl.proofs.Checks.{fails-by, checks-pass, refuses-alike, first-fail}
 use Rattle.aadl.proofs.Settled.{Lent, lent, Form, five-numbers, Answered-whole, Settled, settled, whole}
 use Rattle.aadl.proofs.AnswerDerived.{Answered, answered-whole, told, answer-derived}
 use Rattle.aadl.proofs.RecordLaws.{records-back, records-tree, two-events-a-record}
@@ -89,13 +87,6 @@ rooted-records limits text =
 
 -- BY THE SECTION CALL --------------------------------------------------------------------------------------------------
 
--- Checks that refuse in the section call refuse in the tree call in the same way, whatever follows.
-refuses-alike : (cs ds : List Check) (a : Answer) (b : TreeAnswer) → a .number ≡ 0 → (checked refused cs a .number ≡ 0 → ⊥) →
-    checked tree-refused (cs ++ ds) b ≡ with-records (checked refused cs a) 0
-refuses-alike [] ds a b e f = absurd (f e)
-refuses-alike (check n true p ∷ cs) ds a b e f = refl
-refuses-alike (check n false p ∷ cs) ds a b e f = refuses-alike cs ds a b e f
-
 module _ (limits : Limits) (text : List ℕ) (m n r : ℕ) where
   abbrev rs : List Record
   rs = text-records limits text
@@ -109,7 +100,9 @@ module _ (limits : Limits) (text : List ℕ) (m n r : ℕ) where
 
   pub tree-refused-first : (section-answer limits text m n .number ≡ 0 → ⊥) → tree-answer limits text m n r ≡ with-records (section-answer limits text m n) 0
   unfolding section-answer tree-answer
-  tree-refused-first h = refuses-alike first-checks (tree-checks limits text (record-room r)) (all-answered limits text) (all-recorded limits text) refl h
+  tree-refused-first h =
+      refuses-alike refused tree-refused (λ (a : Answer). a .number) (λ (a : Answer). with-records a 0) (λ k p. refl) first-checks
+      (tree-checks limits text (record-room r)) (all-answered limits text) (all-recorded limits text) refl h
 
   module _ (z : section-answer limits text m n .number ≡ 0) where
     -- The section call's checks passed: its answer counts all, and the tree call's is left to its own check.
@@ -161,10 +154,6 @@ tree-answer-is-settled limits text old last rows ts es rs a e wt we wr =
     (tree-buffers limits text old last rows ts es rs) (wt, (we, (wr, tt)))
 
 -- DEMAND 3, AND THE RECORDS --------------------------------------------------------------------------------------------
-
-first-fail : (cs ds : List Check) → Each Fails (cs ++ ds) → Each Fails cs
-first-fail [] ds h = tt
-first-fail (c ∷ cs) ds h = (h .0, first-fail cs ds (h .1))
 
 -- An answer of the tree call that refuses nothing: the section call refuses nothing, every record has words, and all is counted.
 module _ (limits : Limits) (text : List ℕ) (m n r : ℕ) where

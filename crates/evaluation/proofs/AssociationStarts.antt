@@ -1,34 +1,34 @@
--- The associations of a clean text: the tree that its events spell is its derivation; each starts at a Start of a PROPERTY_ASSOCIATION, behind
+-- The associations of a clean text: each starts at a Start of a PROPERTY_ASSOCIATION, behind
 -- the tokens taken before it, since no other node of a derivation is one; and its constant comes to what the pass gives from there. Assumes nothing.
 use Prim.Native.Nat.{ℕ, suc, _+_}
 use native.Mathlib.Omega.{arith}
-use mathlib.Core.Path.{_≡_, refl, sym, ap, subst, _∙_}
-use mathlib.Core.Bool.{true, false, not}
+use mathlib.Core.Path.{_≡_, refl, sym, ap, _∙_}
+use mathlib.Core.Bool.{true, false}
 use mathlib.Core.List.{List, [], _∷_, _++_, append-assoc, append-nil, map}
 use mathlib.Core.Option.{Option}
-use lib.ListN.{length, length-append}
+use lib.ListN.{length-append}
 use lib.Dec.{eqb}
-use borrow.Author.Tests.{not-true, eqb-true}
+use borrow.Author.Tests.{not-true}
 use Rattle.predictive.specs.Forest.{Forest, nil, leaf, err, node, wrap, leaves}
-use Rattle.predictive.specs.Events.{Event, start, finish, events, behind-start, taken, erring, any-fault}
+use Rattle.predictive.specs.Events.{Event, start, finish, events, behind-start}
 use Rattle.predictive.specs.Grammar.{Derives, Many, d-seq, d-left, d-right, d-many, d-inside, m-nil, m-cons}
 use Rattle.predictive.specs.Tree.{spell}
-use Rattle.predictive.proofs.Tests.{_and_, and-l, and-r}
+use Rattle.predictive.proofs.Tests.{_and_}
 use Rattle.predictive.proofs.Bounds.{form-fits, forms-fit, part-fits}
 use Rattle.predictive.proofs.Absent.{Absent, lacks, derives-absent}
 use Rattle.predictive.proofs.Consumed.{count}
 use Rattle.aadl.specs.Kinds.{PROPERTY-ASSOCIATION, #_}
 use Rattle.aadl.specs.declared.Limits.{Limits}
-use Rattle.aadl.specs.Symbols.{shown, symbols, kinds}
+use Rattle.aadl.specs.Symbols.{shown, symbols}
 use Rattle.aadl.specs.Section.{Rule, Expression, Negated, Operand, Classifier, rules, grammar, literal-association, literal-section}
-use Rattle.aadl.specs.Reading.{Derivation, Clean, reads-cleanly, too-deep}
+use Rattle.aadl.specs.Reading.{Derivation, reads-cleanly, too-deep}
 use Rattle.aadl.specs.Reading
 use Rattle.aadl.specs.Values.{Association, associations, associations-in, number-at, text-associations}
 use Rattle.aadl.proofs.Lists.{Each}
-use Rattle.aadl.proofs.SymbolLaws.{symbols-show-kinds}
 use Rattle.aadl.proofs.Literal.{read-is-literal}
 use Rattle.aadl.proofs.Demand3.{clean-exactly, spelled-derivation, derived-events, from-symbols}
 use Rattle.aadl.proofs.NeverClean.{no-stop}
+use Rattle.aadl.proofs.ValueAnswers.{clean-by-test}
 use Rattle.constants.proofs.Parts.{the-token}
 use Rattle.constants.proofs.Trees.{found-tree}
 use Rattle.constants.proofs.FirstValues.{Right, section-right}
@@ -97,20 +97,12 @@ module _ (number-of-token : ℕ → Option ℕ) where
 -- A CLEAN READING ------------------------------------------------------------------------------------------------------
 
 module _ (limits : Limits) (xs : List ℕ) (c : reads-cleanly limits xs ≡ true) where
-  -- what the test says
-  pub clean-by-test : Clean limits xs
-  unfolding reads-cleanly
-  clean-by-test =
-      let errs = erring any-fault (Reading.events limits xs) in
-      let count = taken (Reading.events limits xs) in
-      record { no-error = not-true errs (and-l (not errs) _ c); all-taken = eqb-true count (length xs) (and-r (not errs) (eqb count (length xs)) c) }
-
   not-deep : too-deep limits xs ≡ false
   unfolding too-deep
-  not-deep = no-stop (Reading.events limits xs) (clean-by-test .no-error)
+  not-deep = no-stop (Reading.events limits xs) (clean-by-test limits xs c .no-error)
 
   derivation : (t : Forest) × Derivation (map shown xs) t
-  derivation = clean-exactly limits xs not-deep .0 clean-by-test
+  derivation = clean-exactly limits xs not-deep .0 (clean-by-test limits xs c)
 
   -- the derivation's forest, which the literal grammar derives from the symbols too
   abbrev forest : Forest
@@ -127,13 +119,6 @@ module _ (limits : Limits) (xs : List ℕ) (c : reads-cleanly limits xs ≡ true
   as-spelled number-of-token = ap (associations number-of-token 0) (spelled ∙ derivation .1 .2) ∙ found-tree number-of-token 0 forest
 
 -- A CLEAN TEXT ---------------------------------------------------------------------------------------------------------
-
--- The tree that its events spell is its derivation.
-pub text-derived : (limits : Limits) (text : List ℕ) → reads-cleanly limits (symbols text) ≡ true →
-    (t : Forest) × (Derivation (kinds text) t × (spell (Reading.events limits (symbols text)) ≡ t))
-text-derived limits text c =
-    let d = derivation limits (symbols text) c in
-    (d .0, (subst (λ (ks : List ℕ). Derivation ks (d .0)) (symbols-show-kinds text) (d .1), spelled limits (symbols text) c))
 
 -- Its events tell where its associations start.
 pub text-starts : (limits : Limits) (text : List ℕ) → reads-cleanly limits (symbols text) ≡ true →

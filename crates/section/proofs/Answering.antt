@@ -14,7 +14,7 @@ use Rattle.aadl.specs.Limits.{Allowed}
 use Rattle.aadl.specs.Tokens.{tokens, token-word}
 use Rattle.aadl.specs.Encoding.{room}
 use Rattle.aadl.specs.Answers.{text-checks, section-checks, answered, all-answered, refused, all-tokens, tokens-answer, section-answer, left-in, token-words, event-words}
-use Rattle.aadl.proofs.Checks.{fails-by, checks-pass, first-refuses}
+use Rattle.aadl.proofs.Checks.{fails-by, checks-pass, refuses-alike}
 use Rattle.aadl.proofs.AnswerLaws.{left-by-refusal, left-answered}
 use Rattle.aadl.proofs.Settled.{five-numbers, whole, number-small, tokens-answer-is-settled}
 use Rattle.parser.specs.declared.Parser.{Parser}
@@ -35,7 +35,7 @@ module _ (limits : Limits) (text : List ℕ) (m : ℕ) where
   text-refused : (n : ℕ) → (tokens-answer limits text m .number ≡ 0 → ⊥) → section-answer limits text m n ≡ tokens-answer limits text m
   unfolding tokens-answer section-answer
   text-refused n f =
-      first-refuses refused (λ (a : Answer). a .number) (text-checks limits text m) (section-checks limits text (room n))
+      refuses-alike refused refused (λ (a : Answer). a .number) (λ (a : Answer). a) (λ n p. refl) (text-checks limits text m) (section-checks limits text (room n))
       (all-tokens text) (all-answered limits text) refl f
 
   text-passed : tokens-answer limits text m .number ≡ 0 → Passed limits text m
