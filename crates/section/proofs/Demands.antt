@@ -64,7 +64,7 @@ module _ {limits : Limits} {text old last : List ℕ} {a : Answer} {ts es : List
   abbrev Whole : Type 0
   Whole = Answered-whole five-numbers (checks limits text old last) (all-answered limits text) a (buffers limits text old last ts es)
 
-  whole-answer : a .number ≡ 0 → Whole
+  pub whole-answer : a .number ≡ 0 → Whole
   unfolding section-answer left-in
   whole-answer =
       whole five-numbers (checks limits text old last) refl (all-answered limits text) a (c .answer) refl (buffers limits text old last ts es) (tokens-left, (events-left, tt))

@@ -5,4 +5,5 @@ pub mod Advancing
 pub mod Sectioning
 pub mod CleanLaws
 pub mod Demands
+pub mod Unrefused
 pub mod Answering

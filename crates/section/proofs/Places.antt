@@ -31,16 +31,16 @@ module _ (text ws : List ℕ) where
   next-drop : (i w : ℕ) (vs : List ℕ) → drop i ws ≡ w ∷ vs → drop (suc i) ws ≡ vs
   next-drop i w vs e = ap (λ (n : ℕ). drop n ws) (sym (add-one i)) ∙ sym (drop-drop 1 i ws) ∙ ap (drop 1) e
 
-  placed-trivia : (b w : ℕ) (vs : List ℕ) → is-trivia (kind-in w) ≡ true → placed-words text b (w ∷ vs) ≡ placed-words text (b + length-in w) vs
+  pub placed-trivia : (b w : ℕ) (vs : List ℕ) → is-trivia (kind-in w) ≡ true → placed-words text b (w ∷ vs) ≡ placed-words text (b + length-in w) vs
   unfolding placed
   placed-trivia b w vs e = rw e refl
 
-  placed-solid : (b w : ℕ) (vs : List ℕ) → is-trivia (kind-in w) ≡ false →
+  pub placed-solid : (b w : ℕ) (vs : List ℕ) → is-trivia (kind-in w) ≡ false →
       placed-words text b (w ∷ vs) ≡ symbol-at text b w ∷ placed-words text (b + length-in w) vs
   unfolding placed
   placed-solid b w vs e = rw e refl
 
-  placed-none : (b : ℕ) → placed-words text b [] ≡ []
+  pub placed-none : (b : ℕ) → placed-words text b [] ≡ []
   unfolding placed
   placed-none b = refl
 

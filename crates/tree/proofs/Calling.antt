@@ -5,16 +5,16 @@ use Prim.Native.Nat.{ℕ, _≤_, _<_}
 use native.Mathlib.Omega.{arith}
 use mathlib.Core.Path.{_≡_, refl, sym, ap, _∙_}
 use mathlib.Core.List.{List, _∷_, map}
-use lib.ListN.{length, getD, take, replicate, length-map, length-take}
+use lib.ListN.{length, getD, take, replicate}
 use borrow.Author.Tests.{eq-eqb}
 use Rattle.predictive.specs.Events.{Event, start}
 use Rattle.predictive.specs.Events as E
 use Rattle.aadl.specs.declared.Answer.{Answer}
 use Rattle.aadl.specs.declared.TreeAnswer.{TreeAnswer}
 use Rattle.aadl.specs.declared.Limits.{Limits}
-use Rattle.aadl.specs.Limits.{Allowed, most-events}
+use Rattle.aadl.specs.Limits.{most-events}
 use Rattle.aadl.specs.Kinds.{#_, PROPERTY-SECTION}
-use Rattle.aadl.specs.Tokens.{tokens, token-word, kind-in}
+use Rattle.aadl.specs.Tokens.{kind-in}
 use Rattle.aadl.specs.Symbols.{symbols, start-of}
 use Rattle.aadl.specs.Encoding.{event-word, event-in}
 use Rattle.aadl.specs.Reading.{events}
@@ -23,11 +23,12 @@ use Rattle.aadl.specs.Records.{Record, record-room, text-records, record-words,
 use Rattle.aadl.proofs.AnswerLaws.{left-by-refusal}
 use Rattle.aadl.proofs.TreeAnswers.{rooted, rooted-records, tree-refused-first, tree-passed, tree-full}
 use Rattle.section.proofs.Demands.{Called, every-answer-is-the-reading}
+use Rattle.section.proofs.Unrefused.{all-passed, event-words-counted, event-words-long, events-told}
 use Rattle.tree.specs.declared.Builder.{Builder}
 use Rattle.tree.specs.Walk.{walk, root}
 use Rattle.tree.specs.Builders.{laid, walked, Built}
 use Rattle.tree.proofs.Walking.{walk-records}
-use Rattle.tree.proofs.Demands.{Called-tree, all-passed, all-counted, token-words-counted, event-words-counted, events-told}
+use Rattle.tree.proofs.Demands.{Called-tree}
 
 -- A TEXT'S EVENTS ------------------------------------------------------------------------------------------------------
 
@@ -79,26 +80,9 @@ module _ {limits : Limits} {text old last : List ℕ} {a : Answer} {ts es : List
       }
 
   module _ (z : a .number ≡ 0) where
-    pub passed-short : Allowed limits → length text < 65536
-    passed-short h = omega (arith, h, all-passed c z .short)
-
-    -- The words that it counts are among those lent, and the text's.
-    pub tokens-fit : a .tokens ≤ length ts
-    tokens-fit =
-        omega (arith, length-take (a .tokens) ts, ap length (token-words-counted c z), length-map (tokens text) token-word, ap (λ (x : Answer). x .tokens) (all-counted c z))
-
-    pub passed-words : take (a .tokens) ts ≡ token-words text
-    passed-words = token-words-counted c z
-
-    event-words-long : length (take (a .events) es) ≡ length (events limits (symbols text))
-    event-words-long = ap length (event-words-counted c z) ∙ length-map (events limits (symbols text)) event-word
-
-    pub events-fit : a .events ≤ length es
-    events-fit = omega (arith, length-take (a .events) es, event-words-long, ap (λ (x : Answer). x .events) (all-counted c z))
-
     -- There are some events, and not too many.
     pub events-stand : (1 ≤ length (take (a .events) es)) × (length (take (a .events) es) ≤ most-events)
-    events-stand = (omega (arith, event-words-long, some-event limits (symbols text)), omega (arith, event-words-long, all-passed c z .few))
+    events-stand = (omega (arith, event-words-long c z, some-event limits (symbols text)), omega (arith, event-words-long c z, all-passed c z .few))
 
     -- b is what was built of them, rs the record words, where the words rows were lent
     module _ {rows : List ℕ} {b : Builder} {rs : List ℕ} (x : Built (take (a .events) es) rows b rs) where

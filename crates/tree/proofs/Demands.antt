@@ -4,7 +4,6 @@
 use Prim.Native.Nat.{ℕ, zero, suc, _<_}
 use native.Mathlib.Omega.{arith}
 use mathlib.Core.Path.{_≡_, refl, sym, ap, subst, _∙_}
-use mathlib.Core.Logic.{⊎-elim}
 use mathlib.Core.List.{List}
 use lib.ListN.{length, getD, take, drop}
 use Rattle.predictive.specs.Forest.{nil, leaves}
@@ -17,17 +16,16 @@ use Rattle.aadl.specs.Limits.{Allowed}
 use Rattle.aadl.specs.WordKinds.{Words-told}
 use Rattle.aadl.specs.NumberParts.{Numbers-told}
 use Rattle.aadl.specs.Kinds.{#_, PROPERTY-SECTION}
-use Rattle.aadl.specs.Symbols.{symbols, kinds}
-use Rattle.aadl.specs.Reading.{events}
-use Rattle.aadl.specs.Answers.{all-answered, left-in, token-words, event-words}
+use Rattle.aadl.specs.Symbols.{kinds}
+use Rattle.aadl.specs.Answers.{left-in, token-words, event-words}
 use Rattle.aadl.specs.Demand.{answered-events, Read-as-derived}
 use Rattle.aadl.specs.Records.{Record, records-in, text-records, record-words, tree-answer, all-recorded, answered-records, Recorded}
-use Rattle.aadl.proofs.Settled.{five-numbers, Answered-whole, Settled}
+use Rattle.aadl.proofs.Settled.{Settled}
 use Rattle.aadl.proofs.StringTokens.{Strings-closed}
-use Rattle.aadl.proofs.AnswerDerived.{Answered, answered-whole, told}
 use Rattle.aadl.proofs.TreeAnswers.{all-checks, six-numbers, tree-buffers, tree-answer-is-settled, tree-answered, tree-read-as-derived, records-told, tree-recorded}
 use Rattle.aadl.proofs.RecordsUpwards.{Upwards, record-at, insides, text-upwards, text-run}
-use Rattle.section.proofs.Demands.{Called, checks, buffers, every-answer-is-settled, counted-tokens, counted-events, every-word-is-told, every-string-is-closed, every-number-is-told}
+use Rattle.section.proofs.Demands.{Called, every-word-is-told, every-string-is-closed, every-number-is-told}
+use Rattle.section.proofs.Unrefused.{all-counted, events-told}
 
 -- What the contract of the tree call says of its answer a and the token, event and record words ts, es and rs, where the words old, last
 -- and rows were lent.
@@ -36,28 +34,6 @@ pub record Called-tree (limits : Limits) (text old last rows : List ℕ) (a : Tr
   pub token-words-left : ts ≡ left-in (a .answer) (token-words text) old
   pub event-words-left : es ≡ left-in (a .answer) (event-words limits text) last
   pub record-words-left : rs ≡ left-in (a .answer) (record-words limits text) rows
-
--- A SECTION CALL THAT REFUSES NOTHING ----------------------------------------------------------------------------------
-
--- It passed every check, the words that it counts are the text's, and they tell its events.
-module _ {limits : Limits} {text old last : List ℕ} {a : Answer} {ts es : List ℕ} (c : Called limits text old last a ts es) (z : a .number ≡ 0) where
-  counts-all : Answered-whole five-numbers (checks limits text old last) (all-answered limits text) a (buffers limits text old last ts es)
-  counts-all = ⊎-elim (λ x. x) (λ x. absurd (x .not-zero (sym (ap (λ (r : Answer). r .number) (x .no-counts)) ∙ z))) (every-answer-is-settled c)
-
-  pub all-passed : Answered limits text (length old) (length last)
-  all-passed = answered-whole limits text (length old) (length last) (sym (ap (λ (r : Answer). r .number) (c .answer)) ∙ z)
-
-  pub all-counted : a ≡ all-answered limits text
-  all-counted = counts-all .counts
-
-  pub token-words-counted : take (a .tokens) ts ≡ token-words text
-  token-words-counted = counted-tokens c counts-all
-
-  pub event-words-counted : take (a .events) es ≡ event-words limits text
-  event-words-counted = counted-events c counts-all
-
-  pub events-told : answered-events a es ≡ events limits (symbols text)
-  events-told = told limits text (length old) (length last) last a es (c .answer) (c .event-words-left) (sym (ap (λ (r : Answer). r .number) (c .answer)) ∙ z)
 
 -- THE DEMANDS ----------------------------------------------------------------------------------------------------------
 

@@ -6,8 +6,9 @@ use borrow.Author.Needs.{needs}
 use Rattle.aadl.specs.declared.Answer.{Answer}
 use Rattle.aadl.specs.Records.{with-records}
 use Rattle.section.proofs.Demands.{Called}
+use Rattle.section.proofs.Unrefused.{passed-short, tokens-fit, token-words-counted, events-fit}
 use Rattle.tree.proofs.Demands.{every-tree-is-derived, every-tree-is-recorded}
-use Rattle.tree.proofs.Calling.{called-refused, passed-short, tokens-fit, passed-words, events-fit, events-stand, called-full, called-built}
+use Rattle.tree.proofs.Calling.{called-refused, events-stand, called-full, called-built}
 use Rattle.tree.proofs.property_tree_within.Statement.{statement}
 use Rattle.tree.proofs.property_tree_within.Tie as tie
 
@@ -63,7 +64,7 @@ token-place-requires c κs =
     let at-section = at-if1 .before .before .before .before .before .before in
     let at-args = at-section .before .before .before .before .before .before .before in (
       passed-short (section at-section) (at-if1 .if1 .left) (at-args .pre),
-      passed-words (section at-section) (at-if1 .if1 .left),
+      token-words-counted (section at-section) (at-if1 .if1 .left),
     )
 
 returns-2 : tie.Need-returns-2
