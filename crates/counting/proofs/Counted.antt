@@ -8,7 +8,7 @@ use mathlib.Core.Path.{_≡_, refl, sym, ap, _∙_}
 use mathlib.Core.Bool.{Bool, true, false, cond}
 use mathlib.Core.List.{List, [], _∷_}
 use lib.ListN.{length, getD, take, drop, length-drop, drop-of-length-le}
-use lib.Seq.{drop-cons, drop-drop}
+use lib.Seq.{take-all, drop-cons, drop-drop}
 use Rattle.counting.specs.declared.Band.{Band}
 use Rattle.counting.specs.Bands.{within-band, tally, nth-within}
 
@@ -95,3 +95,26 @@ module _ (b : Band) where
       go : (t : Bool) → tally b ws ≤ length ws → cond t (suc (tally b ws)) (tally b ws) ≤ suc (length ws)
       go true h = omega (arith, h)
       go false h = omega (arith, h)
+
+  -- WHETHER IT IS THERE ------------------------------------------------------------------------------------------------
+
+  pub nth-among : (ws : List ℕ) (n : ℕ) → n < tally b ws → nth-within b n ws < length ws
+  unfolding tally nth-within
+  nth-among [] n h = absurd (omega (arith, h))
+  nth-among (w ∷ ws) n h = go (within-band b w) refl n (λ m l. nth-among ws m l) h
+    where
+      go : (t : Bool) → within-band b w ≡ t → (n : ℕ) → ((m : ℕ) → m < tally b ws → nth-within b m ws < length ws) → n < tally b (w ∷ ws) →
+          nth-within b n (w ∷ ws) < suc (length ws)
+      go true e zero ih l = rw e (omega arith)
+      go true e (suc n) ih l =
+          let few : suc n < suc (tally b ws) = rw e at l in
+          rw e (omega (arith, ih n (omega (arith, few))))
+      go false e zero ih l = rw e (omega (arith, ih 0 (rw e at l)))
+      go false e (suc n) ih l = rw e (omega (arith, ih (suc n) (rw e at l)))
+
+  pub nth-none : (ws : List ℕ) (n : ℕ) → tally b ws ≤ n → nth-within b n ws ≡ length ws
+  nth-none ws n h =
+      let all : take (length ws) ws ≡ ws = take-all (length ws) ws (omega arith) in
+      let few : tally b (take (length ws) ws) ≤ n = omega (arith, ap (tally b) all, h) in
+      let m = n - tally b (take (length ws) ws) in
+      omega (arith, nth-behind ws n (length ws) (omega arith) few, nth-end ws m (length ws) (omega arith))
