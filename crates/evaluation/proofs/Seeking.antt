@@ -1,11 +1,11 @@
 -- The word of the non-trivia token with a number, found by where words lie, and the byte at which it starts, which the lengths of the words
 -- before it sum to: a parser there has as many tokens behind it. By induction over the words. Assumes nothing.
-use Prim.Native.Nat.{ℕ, zero, suc, _+_, _<_}
+use Prim.Native.Nat.{ℕ, zero, suc, _+_, _≤_, _<_}
 use native.Mathlib.Omega.{arith}
 use mathlib.Core.Path.{_≡_, refl, sym, ap, subst, _∙_}
 use mathlib.Core.Bool.{Bool, true, false, not}
 use mathlib.Core.List.{List, [], _∷_, map}
-use lib.ListN.{length, take, drop}
+use lib.ListN.{length, take, drop, length-map}
 use lib.Seq.{drop-nil}
 use Rattle.aadl.specs.declared.Token.{Token}
 use Rattle.aadl.specs.Tokens.{kind-in, tokens, lengths, length-in, total, token-word}
@@ -13,7 +13,7 @@ use Rattle.aadl.specs.Symbols.{is-trivia, Placed}
 use Rattle.aadl.specs.Answers.{token-words}
 use Rattle.aadl.specs.Demand.{solid-words}
 use Rattle.aadl.proofs.Lists.{Each}
-use Rattle.aadl.proofs.TokensCover.{tokens-cover-text, kinds-small}
+use Rattle.aadl.proofs.TokensCover.{tokens-cover-text, tokens-positive, kinds-small}
 use Rattle.parser.specs.declared.Parser.{Parser}
 use Rattle.section.specs.Standing.{placed-words, Solid, Passed}
 use Rattle.section.proofs.WordsBack.{placed-back, total-token-words}
@@ -22,7 +22,7 @@ use Rattle.counting.specs.Bands.{tally, nth-within}
 use Rattle.evaluation.specs.Words.{solid}
 use Rattle.evaluation.proofs.WordBands.{Small, solid-by-kind}
 
--- A TEXT'S WORDS ARE SMALL ---------------------------------------------------------------------------------------------
+-- A TEXT'S WORDS ARE SMALL AND FEW -------------------------------------------------------------------------------------
 
 words-small : (ts : List Token) → Each (λ (t : Token). t .kind < 128) ts → lengths ts < 65536 → Each Small (map token-word ts)
 words-small [] h l = tt
@@ -32,6 +32,16 @@ words-small (t ∷ ts) h l =
 
 pub token-words-small : (text : List ℕ) → length text < 65536 → Each Small (token-words text)
 token-words-small text h = words-small (tokens text) (kinds-small text) (omega (arith, h, tokens-cover-text text))
+
+-- There are no more than bytes.
+as-many : (ts : List Token) → Each (λ (t : Token). 1 ≤ t .len) ts → length ts ≤ lengths ts
+as-many [] h = omega arith
+as-many (t ∷ ts) h =
+    let p = h .0 in
+    omega (arith, p, as-many ts (h .1))
+
+pub token-words-few : (text : List ℕ) → length (token-words text) ≤ length text
+token-words-few text = omega (arith, length-map (tokens text) token-word, as-many (tokens text) (tokens-positive text), tokens-cover-text text)
 
 -- As many lie in the band as are no trivia's.
 pub tally-solid : (ws : List ℕ) → Each Small ws → tally solid ws ≡ solid-words ws

@@ -1,0 +1,34 @@
+-- What is found of an association's value where the section call refuses nothing. Assumes nothing.
+use Prim.Native.Nat.{ℕ, _≤_, _<_}
+use mathlib.Core.Path.{_≡_}
+use mathlib.Core.Bool.{cond}
+use mathlib.Core.List.{List, map}
+use lib.ListN.{length}
+use lib.Dec.{eqb}
+use Rattle.predictive.specs.Events.{taken}
+use Rattle.aadl.specs.declared.Answer.{Answer}
+use Rattle.aadl.specs.declared.ValueAnswer.{ValueAnswer}
+use Rattle.aadl.specs.declared.Limits.{Limits}
+use Rattle.aadl.specs.Limits.{most-events}
+use Rattle.aadl.specs.Symbols.{symbols}
+use Rattle.aadl.specs.Encoding.{event-in}
+use Rattle.aadl.specs.Reading.{events}
+use Rattle.aadl.specs.Answers.{section-answer, token-words}
+use Rattle.aadl.specs.Values.{with-value, value-refused, value-answer}
+use Rattle.evaluation.specs.declared.Verdict.{Verdict}
+
+-- A text that was read: the token words are its own, the event words tell its events, and so many tokens are taken.
+pub record Was-read (limits : Limits) (text toks ws : List ℕ) (count : ℕ) : Type 0 where
+  pub short : length text < 65536
+  pub words : toks ≡ token-words text
+  pub told : map event-in ws ≡ events limits (symbols text)
+  pub few : length ws ≤ most-events
+  pub counted : count ≡ taken (events limits (symbols text))
+
+-- The answer by a verdict, where the section call answered a.
+unfoldable pub judged : Answer → Verdict → ValueAnswer
+judged a v = cond (eqb (v .number) 0) (with-value a (v .value)) (value-refused (v .number) (v .place))
+
+-- A verdict that is right: where the section call refuses nothing, whatever words were lent, the value call's answer is by it.
+pub record Judged (limits : Limits) (text : List ℕ) (number : ℕ) (v : Verdict) : Type 0 where
+  pub decides : (m n : ℕ) → section-answer limits text m n .number ≡ 0 → value-answer limits text m n number ≡ judged (section-answer limits text m n) v
