@@ -1,11 +1,11 @@
 -- What stands where a parser stands: the symbol of the text's next token; and where that is a literal of a whole number, a digit. Assumes
 -- nothing.
-use Prim.Native.Nat.{ℕ, zero, suc, _+_, _<_}
+use Prim.Native.Nat.{ℕ, zero, suc, _+_, _≤_, _<_}
 use native.Mathlib.Omega.{arith}
 use mathlib.Core.Path.{_≡_, refl, sym, ap, subst, _∙_}
 use mathlib.Core.Bool.{Bool, true, false, _&&_, cond}
 use mathlib.Core.List.{List, [], _∷_, map, append-nil}
-use lib.ListN.{length, getD, take, drop, length-map}
+use lib.ListN.{length, getD, take, drop, length-drop, length-map, drop-of-length-le}
 use lib.Seq.{getD-drop}
 use lib.Dec.{eqb}
 use borrow.Author.Tests.{eq-eqb}
@@ -31,6 +31,17 @@ map-drop ps zero = refl
 map-drop [] (suc k) = refl
 map-drop (p ∷ ps) (suc k) = map-drop ps k
 
+first-of : (xs : List ℕ) (k : ℕ) → 0 < length (drop k xs) → drop k xs ≡ ahead (drop k xs) ∷ drop (suc k) xs
+first-of [] zero h = absurd (omega (arith, h))
+first-of [] (suc k) h = absurd (omega (arith, h))
+first-of (x ∷ xs) zero h = refl
+first-of (x ∷ xs) (suc k) h = first-of xs k h
+
+some-symbol : (text : List ℕ) (b : ℕ) (ws : List ℕ) → 0 < length ws → 0 < length (standing text b ws)
+unfolding standing
+some-symbol text b [] h = h
+some-symbol text b (w ∷ ws) h = omega arith
+
 module _ (text : List ℕ) (k : ℕ) (p : Parser) (x : Passed text k p) where
   stands : standing text (p .byte) (drop (p .at) (token-words text)) ≡ drop k (symbols text)
   unfolding symbols
@@ -50,6 +61,17 @@ module _ (text : List ℕ) (k : ℕ) (p : Parser) (x : Passed text k p) where
   pub passed-rest : (ws : List ℕ) → ws ≡ token-words text → rest (input text ws) p ≡ drop k (symbols text)
   unfolding rest
   passed-rest ws w = ap (λ (v : List ℕ). rest (input text v) p) w ∙ stands
+
+  -- A symbol stands there exactly if a token's word does.
+  pub some-there : p .at < length (token-words text) → drop k (symbols text) ≡ ahead-at text k ∷ drop (suc k) (symbols text)
+  unfolding standing
+  some-there h =
+      first-of (symbols text) k
+      (subst (λ (ys : List ℕ). 0 < length ys) stands (some-symbol text (p .byte) (drop (p .at) (token-words text)) (omega (arith, h, length-drop (p .at) (token-words text)))))
+
+  pub none-there : length (token-words text) ≤ p .at → drop k (symbols text) ≡ []
+  unfolding standing
+  none-there h = sym stands ∙ ap (standing text (p .byte)) (drop-of-length-le (token-words text) h)
 
 -- A symbol that is not the end's stands among them.
 pub here : (xs : List ℕ) (k x : ℕ) → ahead (drop k xs) ≡ x → (x ≡ 257 → ⊥) → drop k xs ≡ x ∷ drop (suc k) xs

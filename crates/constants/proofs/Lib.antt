@@ -7,3 +7,4 @@ pub mod Ahead
 pub mod Steps
 pub mod Outcomes
 pub mod Passing
+pub mod Arriving

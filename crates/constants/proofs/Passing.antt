@@ -3,27 +3,27 @@
 use Prim.Native.Nat.{ℕ, suc, _≤_, _<_}
 use native.Mathlib.Omega.{arith}
 use mathlib.Core.Path.{_≡_, refl, sym, ap, _∙_}
-use mathlib.Core.Bool.{Bool, true, false, not, _||_, Bool·beq}
+use mathlib.Core.Bool.{Bool, true, false, not, _||_, Bool·beq, cond}
 use mathlib.Core.List.{List, [], _∷_}
 use mathlib.Core.Option.{Option, none, some}
-use lib.ListN.{length}
+use lib.ListN.{length, drop}
 use lib.Dec.{eqb}
 use lib.IntN.{pos}
 use borrow.Author.Tests.{ne-eqb}
 use Rattle.predictive.specs.Grammar.{has}
 use Rattle.predictive.proofs.Tests.{never}
-use Rattle.aadl.specs.Kinds.{PLUS, MINUS, INTEGER-LIT, #_}
+use Rattle.aadl.specs.Kinds.{FAT-ARROW, PLUS-ARROW, PLUS, MINUS, INTEGER-LIT, CONSTANT-KW, #_}
 use Rattle.aadl.specs.Symbols.{symbols}
 use Rattle.aadl.specs.Answers.{token-words}
 use Rattle.aadl.specs.Values.{kept, with-sign, number-at}
 use Rattle.parser.specs.declared.Parser.{Parser}
-use Rattle.parser.specs.Input.{input, rest}
+use Rattle.parser.specs.Input.{input, rest, ahead}
 use Rattle.section.specs.Standing.{Passed}
 use Rattle.constants.specs.declared.Signed.{Signed}
 use Rattle.constants.specs.declared.Term.{Term}
-use Rattle.constants.specs.Pass.{Pending, expects, continued, took}
-use Rattle.constants.specs.Terms.{Held, passing, ahead-at, no-constant, comes-to, Signs-passed, Operand-read}
-use Rattle.constants.proofs.Ahead.{passed-rest, here}
+use Rattle.constants.specs.Pass.{Pending, expects, continued, took, pass, evaluated, past-constant, past-arrow}
+use Rattle.constants.specs.Terms.{Held, passing, ahead-at, no-constant, comes-to, Signs-passed, Operand-read, Arrow-passed}
+use Rattle.constants.proofs.Ahead.{passed-rest, some-there, none-there, here}
 use Rattle.constants.proofs.Steps.{sign-step, literal-step, no-operand}
 
 -- one of two, as the code tests it
@@ -94,3 +94,51 @@ module _ (text : List ℕ) (k : ℕ) (g : Signed) (x : Signs-passed text k g) (r
     pub whole-literal : (n : ℕ) → number-at text (x .to) ≡ some n → r .constant ≡ true → Passed text (suc (x .to)) (r .p) →
         Held text (with-sign (g .negative) (kept (x .to) (pos n))) (r .outcome) → Operand-read text k r
     whole-literal n f e p h = λ s q. comes-to (suc (x .to)) (with-sign (g .negative) (kept (x .to) (pos n))) e (omega (arith, x .from)) p h (by-number (some n) f s q) refl
+
+-- THE ARROW ------------------------------------------------------------------------------------------------------------
+
+-- From token k the parser q has come to a token `to`, before the arrow.
+pub record Before-arrow (text : List ℕ) (k : ℕ) (q : Parser) : Type 0 where
+  pub to : ℕ
+  pub stands : Passed text to q
+  pub gives : past-arrow (number-at text) k (drop k (symbols text)) ≡ past-arrow (number-at text) to (drop to (symbols text))
+
+module _ (text : List ℕ) (k : ℕ) (q : Parser) (x : Before-arrow text k q) where
+  abbrev shows : ℕ
+  shows = ahead-at text (x .to)
+
+  -- a symbol stands there: it is the arrow, or it is passed
+  module _ (h : q .at < length (token-words text)) (r : Parser) (p : Passed text (suc (x .to)) r) where
+    by-arrow : (t : Bool) → (eqb shows (# FAT-ARROW) || eqb shows (# PLUS-ARROW)) ≡ t →
+        past-arrow (number-at text) k (drop k (symbols text))
+        ≡ cond t (past-constant (number-at text) (suc (x .to)) (drop (suc (x .to)) (symbols text))) (past-arrow (number-at text) (suc (x .to)) (drop (suc (x .to)) (symbols text)))
+    unfolding past-arrow
+    by-arrow t e =
+        x .gives ∙ ap (past-arrow (number-at text) (x .to)) (some-there text (x .to) q (x .stands) h)
+        ∙ ap (λ (b : Bool). cond b (past-constant (number-at text) (suc (x .to)) (drop (suc (x .to)) (symbols text))) (past-arrow (number-at text) (suc (x .to)) (drop (suc (x .to)) (symbols text)))) e
+
+    pub arrow-here : (eqb shows (# FAT-ARROW) || eqb shows (# PLUS-ARROW)) ≡ true → Arrow-passed text k r
+    arrow-here e = record { to = suc (x .to); stands = p; gives = by-arrow true e }
+
+    pub no-arrow-here : (eqb shows (# FAT-ARROW) || eqb shows (# PLUS-ARROW)) ≡ false → Before-arrow text k r
+    no-arrow-here e = record { to = suc (x .to); stands = p; gives = by-arrow false e }
+
+  -- none does
+  pub no-arrow : length (token-words text) ≤ q .at → Arrow-passed text k q
+  unfolding past-arrow
+  no-arrow h =
+      let e = none-there text (x .to) q (x .stands) h in
+      record { to = x .to; stands = x .stands; gives = x .gives ∙ ap (past-arrow (number-at text) (x .to)) e ∙ ap (past-constant (number-at text) (x .to)) (sym e) }
+
+-- Behind the arrow `constant` stands, or it does not.
+module _ (text : List ℕ) (k : ℕ) (q : Parser) (x : Arrow-passed text k q) where
+  pub constant-here : ahead-at text (x .to) ≡ # CONSTANT-KW → past-arrow (number-at text) k (drop k (symbols text)) ≡ evaluated (number-at text) (suc (x .to)) (drop (suc (x .to)) (symbols text))
+  constant-here e = x .gives ∙ ap (past-constant (number-at text) (x .to)) (here (symbols text) (x .to) (# CONSTANT-KW) e (λ f. omega (arith, f)))
+
+  pub no-constant-here : (ahead-at text (x .to) ≡ # CONSTANT-KW → ⊥) → past-arrow (number-at text) k (drop k (symbols text)) ≡ evaluated (number-at text) (x .to) (drop (x .to) (symbols text))
+  unfolding pass
+  no-constant-here n = x .gives ∙ go (drop (x .to) (symbols text)) n
+    where
+      go : (ys : List ℕ) → (ahead ys ≡ # CONSTANT-KW → ⊥) → past-constant (number-at text) (x .to) ys ≡ evaluated (number-at text) (x .to) ys
+      go [] m = refl
+      go (y ∷ ys) m = rw (ne-eqb y (# CONSTANT-KW) m) refl

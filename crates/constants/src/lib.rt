@@ -161,3 +161,108 @@ fn operand(text: &[u8], toks: &[u32], p: Parser, classes: &[u8; 256]) -> Term
         outcome,
     }
 }
+
+// PRODUCTS AND SUMS
+
+// A term, the operator where its parser stands, and a term behind that.
+fn then(t: Term, op: u32, r: Term) -> Term
+    requires { ⌜ (t .outcome .whole .size ≤ most) × (r .outcome .whole .size ≤ most) ⌝ }
+    ensures { λ u. ⌜ (u .p ≡ r .p) × (u .constant ≡ r .constant) × ((text : List ℕ) (i : ℕ) (a b : Vs.Outcome) → t .p .byte ≡ start-of text i → Held text a (t .outcome) → Held text b (r .outcome) → Held text (Vs.joined (operator-of op) i a b) (u .outcome)) × (u .outcome .whole .size ≤ most) ⌝ }
+{
+    let p = r.p;
+    let outcome = join(op, t.p.byte, t.outcome, r.outcome);
+    Term {
+        p,
+        constant: r.constant,
+        outcome,
+    }
+}
+
+// Operands with `*` between them.
+fn product(text: &[u8], toks: &[u32], p: Parser, classes: &[u8; 256]) -> Term
+    requires { ⌜ (length (now text) < 65536) × (now toks ≡ token-words (now text)) × (now classes ≡ class-table) × ((k : ℕ) × Passed (now text) k p) ⌝ }
+    ensures { λ r. ⌜ ((k : ℕ) → Passed (now (text .entry)) k p → Product-read (now (text .entry)) k r) × (r .outcome .whole .size ≤ most) ⌝ }
+{
+    let mut t = operand(text, toks, p, classes);
+    while t.constant {
+        let q = t.p;
+        if current(text, toks, q) != STAR {
+            return t;
+        }
+        let r = operand(text, toks, pass(text, toks, q), classes);
+        t = then(t, STAR, r);
+    }
+    t
+}
+
+// Products with `+` or `-` between them.
+fn sum(text: &[u8], toks: &[u32], p: Parser, classes: &[u8; 256]) -> Term
+    requires { ⌜ (length (now text) < 65536) × (now toks ≡ token-words (now text)) × (now classes ≡ class-table) × ((k : ℕ) × Passed (now text) k p) ⌝ }
+    ensures { λ r. ⌜ ((k : ℕ) → Passed (now (text .entry)) k p → Sum-read (now (text .entry)) k r) ⌝ }
+{
+    let mut t = product(text, toks, p, classes);
+    while t.constant {
+        let q = t.p;
+        let kind = current(text, toks, q);
+        if !((kind == PLUS) | (kind == MINUS)) {
+            return t;
+        }
+        let r = product(text, toks, pass(text, toks, q), classes);
+        t = then(t, kind, r);
+    }
+    t
+}
+
+// THE VALUE
+
+// Passes an association's name and its arrow.
+fn past_arrow(text: &[u8], toks: &[u32], p: Parser) -> Parser
+    requires { ⌜ (now toks ≡ token-words (now text)) × ((k : ℕ) × Passed (now text) k p) ⌝ }
+    ensures { λ r. ⌜ ((k : ℕ) → Passed (now (text .entry)) k p → Arrow-passed (now (text .entry)) k r) ⌝ }
+{
+    let mut q = p;
+    while q.at < toks.len() {
+        let kind = current(text, toks, q);
+        q = pass(text, toks, q);
+        if (kind == FAT_ARROW) | (kind == PLUS_ARROW) {
+            return q;
+        }
+    }
+    q
+}
+
+// What makes a value no constant where it stands behind a sum: `/`, `..`, or a name, which is a unit.
+fn goes_on(kind: u32) -> bool
+    ensures { λ r. ⌜ r ≡ has (# SLASH ∷ # DOT-DOT ∷ # IDENT ∷ []) kind ⌝ }
+{
+    (kind == SLASH) | ((kind == DOT_DOT) | (kind == IDENT))
+}
+
+// The value that begins where a parser stands.
+fn value(text: &[u8], toks: &[u32], p: Parser) -> Term
+    requires { ⌜ (length (now text) < 65536) × (now toks ≡ token-words (now text)) × ((k : ℕ) × Passed (now text) k p) ⌝ }
+    ensures { λ r. ⌜ ((k : ℕ) → Passed (now (text .entry)) k p → Value-read (now (text .entry)) (evaluated (number-at (now (text .entry))) k (drop k (symbols (now (text .entry))))) r) ⌝ }
+{
+    let classes = class_table();
+    let t = sum(text, toks, p, &classes);
+    if !t.constant {
+        return t;
+    }
+    let q = t.p;
+    if goes_on(current(text, toks, q)) {
+        return none(q);
+    }
+    t
+}
+
+// The first value of the association at which a parser stands.
+pub fn first_value(text: &[u8], toks: &[u32], p: Parser) -> Term
+    requires { ⌜ (length (now text) < 65536) × (now toks ≡ token-words (now text)) × ((k : ℕ) × Passed (now text) k p) ⌝ }
+    ensures { λ r. ⌜ ((k : ℕ) → Passed (now (text .entry)) k p → First-value (now (text .entry)) k r) ⌝ }
+{
+    let q = past_arrow(text, toks, p);
+    if current(text, toks, q) == CONSTANT_KW {
+        return value(text, toks, pass(text, toks, q));
+    }
+    value(text, toks, q)
+}

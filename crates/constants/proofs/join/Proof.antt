@@ -18,10 +18,11 @@ returns-2 c =
 returns-3 : tie.Need-returns-3
 returns-3 c =
     let p = c .before .before .before .before .before in
-    let r = c .before .before .operate in
-    (λ text i a b e h k.
-    joined-held text (operator-of (p .args .op)) i a b (p .args .x) (p .args .y) (p .args .place) (r .result) (c .before .before .before .before .if1 .left) (c .before .before .before .if2 .left) e (r .ensures) h k,
-    r .ensures .small)
+    let r = c .before .before .operate in (
+      λ text i a b e h k.
+          joined-held text (operator-of (p .args .op)) i a b (p .args .x) (p .args .y) (p .args .place) (r .result) (c .before .before .before .before .if1 .left) (c .before .before .before .if2 .left) e (r .ensures) h k,
+      r .ensures .small,
+    )
 
 pub join-spec : {M : Type 1} → statement M
 join-spec = tie.close (tie.spec returns returns-2 (λ c κs. search needs) returns-3)

@@ -32,9 +32,10 @@ module _ (c : tie.After-current) (k : ℕ) (y : Passed (c .before .before .befor
 returns : tie.Need-returns
 returns c =
     let q = c .before .before in
-    let text = q .before .before .before .before .before .args .text .now in
-    (λ k y. no-literal text k (q .before .before .signs .result) (signs-of q k y) (c .none .result) (λ e. c .before .if1 .taken (shown q k y ∙ e)) (c .none .ensures .0),
-    omega (arith, c .none .ensures .1))
+    let text = q .before .before .before .before .before .args .text .now in (
+      λ k y. no-literal text k (q .before .before .signs .result) (signs-of q k y) (c .none .result) (λ e. c .before .if1 .taken (shown q k y ∙ e)) (c .none .ensures .0),
+      omega (arith, c .none .ensures .1),
+    )
 
 begins : tie.Need-literal-number-requires
 begins c κs =
@@ -59,11 +60,12 @@ returns-2 : tie.Need-returns-2
 returns-2 c =
     let l = c .before .before .before in
     let q = l .before .before in
-    let text = q .before .before .before .before .before .args .text .now in
-    (λ k y.
-    broken-literal text k (q .before .before .signs .result) (signs-of q k y) (c .none2 .result) (sym (shown q k y) ∙ l .before .if1 .left)
-    (literal-broken (number-at text (signs-of q k y .to)) (l .literal-number .result) (literal-there l k y) (not-true (l .literal-number .result .good) (c .before .if2 .taken))) (c .none2 .ensures .0),
-    omega (arith, c .none2 .ensures .1))
+    let text = q .before .before .before .before .before .args .text .now in (
+      λ k y.
+          broken-literal text k (q .before .before .signs .result) (signs-of q k y) (c .none2 .result) (sym (shown q k y) ∙ l .before .if1 .left)
+          (literal-broken (number-at text (signs-of q k y .to)) (l .literal-number .result) (literal-there l k y) (not-true (l .literal-number .result .good) (c .before .if2 .taken))) (c .none2 .ensures .0),
+      omega (arith, c .none2 .ensures .1),
+    )
 
 returns-3 : tie.Need-returns-3
 returns-3 c =
@@ -73,14 +75,15 @@ returns-3 c =
     let text = p .args .text .now in
     let g = q .before .before .signs .result in
     let n = l .literal-number .result in
-    let good = not-false (n .good) (c .before .before .if2 .left) in
-    (λ k y.
-    let x = signs-of q k y in
-    let v = literal-kept (number-at text (x .to)) n (literal-there l k y) good in
-    whole-literal text k g x _ (sym (shown q k y) ∙ l .before .if1 .left) (v .0) (v .1 .0) refl (passed-one text (p .args .toks .now) (p .pre .1) (x .to) (g .p) (c .before .pass .result) (x .stands) (c .before .pass .ensures []))
-    (literal-held text (x .to) (g .p .byte) (g .negative) (v .0) (n .size) (passed-place text (x .to) (g .p) (x .stands)) (v .1 .1)),
-    let x = signs-of q (p .pre .3 .0) (p .pre .3 .1) in
-    omega (arith, literal-kept (number-at text (x .to)) n (literal-there l (p .pre .3 .0) (p .pre .3 .1)) good .1 .1))
+    let good = not-false (n .good) (c .before .before .if2 .left) in (
+      λ k y.
+          let x = signs-of q k y in
+          let v = literal-kept (number-at text (x .to)) n (literal-there l k y) good in
+          whole-literal text k g x _ (sym (shown q k y) ∙ l .before .if1 .left) (v .0) (v .1 .0) refl (passed-one text (p .args .toks .now) (p .pre .1) (x .to) (g .p) (c .before .pass .result) (x .stands) (c .before .pass .ensures []))
+          (literal-held text (x .to) (g .p .byte) (g .negative) (v .0) (n .size) (passed-place text (x .to) (g .p) (x .stands)) (v .1 .1)),
+      let x = signs-of q (p .pre .3 .0) (p .pre .3 .1) in
+          omega (arith, literal-kept (number-at text (x .to)) n (literal-there l (p .pre .3 .0) (p .pre .3 .1)) good .1 .1),
+    )
 
 pub operand-spec : {M : Type 1} → statement M
 operand-spec =
