@@ -115,3 +115,20 @@ pub fn to_i64(x: Whole) -> i64
     }
     v
 }
+
+// The same number by its sign and size. One is added before the sign goes and after: the least number's size is none of the range.
+pub fn from_i64(v: i64) -> Whole
+    ensures { λ r. ⌜ (integer r ≡ v) × (r .size ≤ most) ⌝ }
+{
+    if v < 0 {
+        let less = -(v + 1);
+        return Whole {
+            negative: true,
+            size: less as u64 + 1,
+        };
+    }
+    Whole {
+        negative: false,
+        size: v as u64,
+    }
+}
