@@ -1,15 +1,21 @@
--- Sums and products of integers by sign and size. Assumes nothing.
+-- Integers by sign and size: the size, sums and products. Assumes nothing.
 use Prim.Native.Nat.{ℕ, zero, suc, _+_, _-_, _*_, _≤_}
 use native.Mathlib.Omega.{arith}
 use mathlib.Core.Path.{_≡_, refl, sym, ap, _∙_}
 use mathlib.Core.Bool.{Bool, true, false, not, Bool·beq}
-use lib.IntN.{pos, negℤ, _+ℤ_, _*ℤ_, negℤ-negℤ, negℤ-+ℤ, +ℤ-comm, +ℤ-negℤ-cancel, *ℤ-comm, zero-*ℤ, *ℤ-zero}
+use lib.IntN.{pos, negℤ, natAbs, _+ℤ_, _*ℤ_, negℤ-negℤ, negℤ-+ℤ, +ℤ-comm, +ℤ-negℤ-cancel, *ℤ-comm, zero-*ℤ, *ℤ-zero}
 use Rattle.predictive.proofs.Tests.{never}
 use Rattle.wholes.specs.Integers.{by-sign}
 
 pub other-sign : (m : Bool) (n : ℕ) → by-sign (not m) n ≡ negℤ (by-sign m n)
 other-sign false n = refl
 other-sign true n = sym (negℤ-negℤ (pos n))
+
+-- either sign leaves the size
+pub size-of : (m : Bool) (n : ℕ) → natAbs (by-sign m n) ≡ n
+size-of false n = refl
+size-of true zero = refl
+size-of true (suc n) = refl
 
 -- SUMS -----------------------------------------------------------------------------------------------------------------
 

@@ -1,4 +1,5 @@
 pub mod DecimalLaws
 pub mod LeastLaws
+pub mod SignLaws
 pub mod SpellLaws
 pub mod WriteLaws

@@ -1,1 +1,2 @@
+pub mod SignedDecimal
 pub mod Written

@@ -1,11 +1,13 @@
 // Text and numbers in decimal, written into lent bytes from a place on: the one piece by which programs make what they print. What has no room is left
 // out, so that no caller owes anything; one that sees to room finds all that it put.
+use wholes::from_i64;
 ghost use Prim.Native.Nat.{_≤_, min};
 ghost use mathlib.Core.Path.{_≡_};
 ghost use mathlib.Core.List.{[], _∷_};
 ghost use lib.ListN.{length, drop};
 ghost use Rattle.aadl.specs.Listing.{decimal};
 ghost use Rattle.writing.specs.Written.{Wrote};
+ghost use Rattle.writing.specs.SignedDecimal.{signed-decimal};
 
 // The lesser of two.
 pub fn least(a: usize, b: usize) -> usize
@@ -62,4 +64,16 @@ pub fn put_decimal(out: &mut [u8], at: usize, n: u64) -> usize
     let mut digits = [0u8; 20];
     let from = spell(n, &mut digits);
     put_text(out, at, &digits[from..])
+}
+
+// Writes a signed number in decimal, and says where it ends.
+pub fn put_signed(out: &mut [u8], at: usize, v: i64) -> usize
+    ensures { λ r. ⌜ Wrote (now (out .entry)) at (signed-decimal v) (now (out .exit)) r ⌝ }
+{
+    let w = from_i64(v);
+    if v < 0 {
+        let end = put_byte(out, at, b'-');
+        return put_decimal(out, end, w.size);
+    }
+    put_decimal(out, at, w.size)
 }
