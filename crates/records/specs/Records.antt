@@ -7,9 +7,11 @@ use lib.ListN.{take, drop}
 use lib.Dec.{eqb}
 use Rattle.aadl.specs.declared.Answer.{Answer}
 use Rattle.aadl.specs.declared.TreeAnswer.{TreeAnswer}
+use Rattle.aadl.specs.declared.ValueAnswer.{ValueAnswer}
 use Rattle.aadl.specs.Words.{bytes}
 use Rattle.aadl.specs.Listing.{decimal}
 use Rattle.aadl.specs.Encoding.{words-for}
+use Rattle.writing.specs.SignedDecimal.{signed-decimal}
 
 -- What every lent word holds before a call.
 abbrev pub old-word : ℕ
@@ -58,3 +60,7 @@ record-lines a added ts es = (named-answer a ++ added) ++ (10 ∷ word-lines a t
 -- The six lines of a record of the tree call, which adds the number of records; a record is four words.
 unfoldable pub tree-lines : TreeAnswer → (tokens events records : List ℕ) → List ℕ
 tree-lines a ts es rs = record-lines (a .answer) (32 ∷ decimal (a .records)) ts es ++ more-lines (a .answer .number) (a .records * 4) rs
+
+-- The four lines of a record of the value call, which adds the value.
+unfoldable pub value-lines : ValueAnswer → (tokens events : List ℕ) → List ℕ
+value-lines a ts es = record-lines (a .answer) (32 ∷ signed-decimal (a .value)) ts es

@@ -3,10 +3,12 @@
 use aadl::Answer;
 use aadl::Number;
 use aadl::TreeAnswer;
+use aadl::ValueAnswer;
 use lexer::part_numbers;
 use writing::least;
 use writing::put_byte;
 use writing::put_decimal;
+use writing::put_signed;
 use writing::put_text;
 ghost use mathlib.Core.Path.{_≡_};
 ghost use mathlib.Core.List.{[], _∷_};
@@ -15,7 +17,7 @@ ghost use Rattle.aadl.specs.Words.{bytes};
 ghost use Rattle.aadl.specs.Listing.{decimal};
 ghost use Rattle.aadl.specs.NumberParts.{part-numbers};
 ghost use Rattle.writing.specs.Written.{Wrote};
-ghost use Rattle.records.specs.Records.{old-word, spaced, line, count, rest, named-answer, word-lines, more-lines, record-lines, tree-lines};
+ghost use Rattle.records.specs.Records.{old-word, spaced, line, count, rest, named-answer, word-lines, more-lines, record-lines, tree-lines, value-lines};
 
 // What every lent word holds before a call.
 const OLD: u32 = 2779096485;
@@ -174,6 +176,23 @@ pub fn put_tree(
     end = put_number(out, end, a.records as u64);
     end = put_buffers(out, end, answer, tokens, events);
     put_more(out, end, answer.number, used, records)
+}
+
+// The four lines of a record of the value call.
+pub fn put_valued(
+    out: &mut [u8],
+    at: usize,
+    a: ValueAnswer,
+    tokens: &[u32],
+    events: &[u32],
+) -> usize
+    ensures { λ r. ⌜ Wrote (now (out .entry)) at (value-lines a (now (tokens .entry)) (now (events .entry))) (now (out .exit)) r ⌝ }
+{
+    let answer = a.answer;
+    let mut end = put_answer(out, at, answer);
+    end = put_byte(out, end, b' ');
+    end = put_signed(out, end, a.value);
+    put_buffers(out, end, answer, tokens, events)
 }
 
 // The line of a record of number parts.
