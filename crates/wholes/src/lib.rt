@@ -116,7 +116,7 @@ pub fn to_i64(x: Whole) -> i64
     v
 }
 
-// The same number by its sign and size. One is added before the sign goes and after: the least number's size is none of the range.
+// The same number by its sign and size. A negative one has 1 added before its sign goes, and after: the least one's size is above the range.
 pub fn from_i64(v: i64) -> Whole
     ensures { λ r. ⌜ (integer r ≡ v) × (r .size ≤ most) ⌝ }
 {
