@@ -1,8 +1,9 @@
 //! The oracle: for each record of standard input the lines that 01 asks for, from the given Rust. The Rust has no limits, no refusals,
-//! no tree call and no parts of numbers; this program puts them around it. tools/README.md says what a record is and what is written for one.
+//! no tree call, no parts of numbers and no values; this program puts them around it. tools/README.md says what a record is and what is written for one.
 mod parts;
 mod records;
 mod tree;
+mod values;
 
 use parts::parts;
 use records::{next, write_record, write_words, Call, Next, Reading, Record, Refusal, RECORD};
@@ -12,8 +13,10 @@ use spar::parser::Parser;
 use spar::syntax_kind::SyntaxKind;
 use std::collections::HashMap;
 use std::io::{self, BufReader, BufWriter, Write};
+use std::ops::Range;
 use texts::strings::unclosed;
-use tree::{nodes, Node};
+use tree::{nodes, steps, Node};
+use values::{associations, Fault};
 
 /// 01's limits.
 const MOST_BYTES: usize = 32_768;
@@ -80,8 +83,8 @@ fn is_opener(events: &[Event], at: usize) -> bool {
 }
 
 /// Refusals 5 and 6 by reading order. Starts and Finishes nest in the order in which they were pushed, forward parents or not: a node
-/// that is put around another is started after that one's Finish. `starts` are the non-trivia tokens' places, then the text's length.
-fn limits(events: &[Event], lent: usize, starts: &[usize]) -> Result<usize, Refusal> {
+/// that is put around another is started after that one's Finish. `leaves` are the non-trivia tokens' places, then the text's end.
+fn limits(events: &[Event], lent: usize, leaves: &[Range<usize>]) -> Result<usize, Refusal> {
     let words = lent.min(MOST_EVENTS);
     let mut taken = 0;
     let mut open = 0;
@@ -89,10 +92,10 @@ fn limits(events: &[Event], lent: usize, starts: &[usize]) -> Result<usize, Refu
     for (at, event) in events.iter().enumerate() {
         let opener = is_opener(events, at);
         if opener && open == MOST_OPENERS {
-            return Err(Refusal(6, starts[taken]));
+            return Err(Refusal(6, leaves[taken].start));
         }
         if at >= words {
-            return Err(Refusal(5, starts[taken]));
+            return Err(Refusal(5, leaves[taken].start));
         }
         match event {
             Event::Start { .. } => {
@@ -130,53 +133,84 @@ fn tokens(record: &Record) -> Result<(&str, Vec<Token>), Refusal> {
     Ok((text, tokens))
 }
 
-/// The kind of a text's first non-trivia token; and where these start, then the text's length.
-fn places(tokens: &[Token]) -> (Option<SyntaxKind>, Vec<usize>) {
-    let mut starts = Vec::new();
-    let mut first = None;
+/// Where the non-trivia tokens stand, then the text's end.
+fn leaves(tokens: &[Token]) -> Vec<Range<usize>> {
+    let mut leaves = Vec::new();
     let mut at = 0;
     for (kind, len) in tokens {
         if !kind.is_trivia() {
-            starts.push(at);
-            first = first.or(Some(*kind));
+            leaves.push(at..at + len);
         }
         at += len;
     }
-    starts.push(at);
-    (first, starts)
+    leaves.push(at..at);
+    leaves
 }
 
-/// A section: how many tokens it takes, its events, and where record words are lent its nodes; or one of the refusals 4 to 7.
-fn section(text: &str, tokens: &[Token], lent: usize, records: Option<usize>) -> Result<(usize, Vec<Event>, Vec<Node>), Refusal> {
-    let (first, starts) = places(tokens);
-    if first != Some(SyntaxKind::PROPERTIES_KW) {
-        return Err(Refusal(4, starts[0]));
+/// A section that is read: where its text's non-trivia tokens stand, then the text's end; how many of them it takes; its events.
+struct Section {
+    leaves: Vec<Range<usize>>,
+    taken: usize,
+    events: Vec<Event>,
+}
+
+/// A section, or one of the refusals 4 to 6.
+fn section(text: &str, tokens: &[Token], lent: usize) -> Result<Section, Refusal> {
+    let leaves = leaves(tokens);
+    let first = tokens.iter().find(|(kind, _)| !kind.is_trivia());
+    if first.is_none_or(|(kind, _)| *kind != SyntaxKind::PROPERTIES_KW) {
+        return Err(Refusal(4, leaves[0].start));
     }
     let mut parser = Parser::new(tokens, text);
     parser.run_property_section();
     let events = parser.finish();
-    let taken = limits(&events, lent, &starts)?;
-    let Some(words) = records else { return Ok((taken, events, Vec::new())) };
-    let nodes = nodes(events.clone());
-    match nodes.get(words / RECORD) {
-        Some(node) => Err(Refusal(7, starts[node.first])),
-        None => Ok((taken, events, nodes)),
+    let taken = limits(&events, lent, &leaves)?;
+    Ok(Section { leaves, taken, events })
+}
+
+impl Section {
+    fn is_clean(&self) -> bool {
+        self.taken + 1 == self.leaves.len() && !self.events.iter().any(|event| matches!(event, Event::Error { .. }))
+    }
+
+    /// The records of all nodes, or refusal 7.
+    fn records(&self, words: usize) -> Result<Vec<u32>, Refusal> {
+        let nodes = nodes(&steps(self.events.clone()));
+        match nodes.get(words / RECORD) {
+            Some(node) => Err(Refusal(7, self.leaves[node.first].start)),
+            None => Ok(nodes.iter().flat_map(Node::words).collect()),
+        }
+    }
+
+    /// The value of the association with a number, or one of the refusals 9 and 10.
+    fn value(&self, text: &str, number: usize) -> Result<i64, Refusal> {
+        if !self.is_clean() {
+            return Err(Refusal(9, text.len()));
+        }
+        match associations(text, &steps(self.events.clone()), &self.leaves).get(number) {
+            None => Err(Refusal(9, text.len())),
+            Some((start, Err(Fault::NoConstant))) => Err(Refusal(9, *start)),
+            Some((_, Err(Fault::OutOfRange(place)))) => Err(Refusal(10, *place)),
+            Some((_, Ok(value))) => Ok(*value),
+        }
     }
 }
 
 fn call(record: &Record, messages: &Messages) -> Result<Reading, Refusal> {
     let (text, tokens) = tokens(record)?;
-    let (taken, events, nodes) = match record.call {
-        Call::Section { events } => section(text, &tokens, events, None)?,
-        Call::Tree { events, records } => section(text, &tokens, events, Some(records))?,
-        _ => (0, Vec::new(), Vec::new()),
-    };
-    Ok(Reading {
-        tokens: tokens.iter().map(|(kind, len)| *kind as u32 * 65_536 + *len as u32).collect(),
-        taken,
-        events: events.iter().map(|e| event_word(e, messages)).collect(),
-        records: nodes.iter().flat_map(Node::words).collect(),
-    })
+    let mut reading = Reading::default();
+    if let Call::Section { events } | Call::Tree { events, .. } | Call::Value { events, .. } = record.call {
+        let section = section(text, &tokens, events)?;
+        match record.call {
+            Call::Tree { records, .. } => reading.records = section.records(records)?,
+            Call::Value { association, .. } => reading.value = section.value(text, association as usize)?,
+            _ => {}
+        }
+        reading.taken = section.taken;
+        reading.events = section.events.iter().map(|e| event_word(e, messages)).collect();
+    }
+    reading.tokens = tokens.iter().map(|(kind, len)| *kind as u32 * 65_536 + *len as u32).collect();
+    Ok(reading)
 }
 
 /// The parts of the token with a number: zeros if there is none, or if the text is refused, since no token has a word then.

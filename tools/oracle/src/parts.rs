@@ -6,10 +6,10 @@ use std::ops::Range;
 /// What is told of a number besides its kind and length: the base's digits and the inner digits by their places in the literal, whether
 /// the closing `#` is there and whether an exponent is.
 #[derive(Default)]
-struct Parts {
-    base: Range<usize>,
-    inner: Range<usize>,
-    closed: bool,
+pub struct Parts {
+    pub base: Range<usize>,
+    pub inner: Range<usize>,
+    pub closed: bool,
     exponent: bool,
 }
 
@@ -27,7 +27,8 @@ fn based(base: &str, behind: &str) -> Parts {
     Parts { base: 0..base.len(), inner: start..start + inner.len(), closed: closing.is_some(), exponent: !exponent.is_empty() }
 }
 
-fn literal(text: &str) -> Parts {
+/// The parts of an INTEGER_LIT or a REAL_LIT.
+pub fn literal(text: &str) -> Parts {
     match text.split_once('#') {
         Some((base, behind)) => based(base, behind),
         None => decimal(text),

@@ -11,12 +11,14 @@ pub const RECORD: usize = 4;
 /// In the place of a number: the extended form, the largest settings, no event words.
 const NONE: u32 = u32::MAX;
 
-/// The call that a record asks for, with the words that it lends besides token words, or the number of the token that it asks about.
+/// The call that a record asks for, with the words that it lends besides token words, and the number of the token or of the association that it
+/// asks about.
 pub enum Call {
     Tokens,
     Section { events: usize },
     Tree { events: usize, records: usize },
     Parts { token: u32 },
+    Value { events: usize, association: u32 },
 }
 
 pub struct Record {
@@ -34,22 +36,28 @@ pub enum Next {
 /// A refusal's number and place.
 pub struct Refusal(pub u32, pub usize);
 
-/// What a call that is not refused leaves: token words, tokens taken, event words, record words.
+/// What a call that is not refused leaves: token words, tokens taken, event words, record words; and its value.
 #[derive(Default)]
 pub struct Reading {
     pub tokens: Vec<u32>,
     pub taken: usize,
     pub events: Vec<u32>,
     pub records: Vec<u32>,
+    pub value: i64,
 }
 
 pub fn write_words(out: &mut Vec<u8>, name: &str, words: &[u32]) {
+    write_row(out, name, words);
+    out.push(b'\n');
+}
+
+/// A line without its end.
+fn write_row(out: &mut Vec<u8>, name: &str, words: &[u32]) {
     out.extend_from_slice(name.as_bytes());
     for w in words {
         out.push(b' ');
         write_number(out, *w);
     }
-    out.push(b'\n');
 }
 
 fn write_number(out: &mut Vec<u8>, number: u32) {
@@ -75,14 +83,18 @@ pub fn write_record(out: &mut Vec<u8>, record: &Record, answer: Result<Reading, 
     };
     let rest = |lent: usize, words: &[u32]| (lent - words.len()) as u32;
     let (events, records) = match record.call {
-        Call::Section { events } => (events, None),
+        Call::Section { events } | Call::Value { events, .. } => (events, None),
         Call::Tree { events, records } => (events, Some(records)),
         _ => (0, None),
     };
     let added = records.map(|_| read.records.len() / RECORD);
     let counts = [place, read.tokens.len(), read.taken, read.events.len()];
     let numbers: Vec<u32> = counts.into_iter().chain(added).map(|n| n as u32).collect();
-    write_words(out, "answer", &[&[number], &numbers[..]].concat());
+    write_row(out, "answer", &[&[number], &numbers[..]].concat());
+    if let Call::Value { .. } = record.call {
+        out.extend_from_slice(format!(" {}", read.value).as_bytes());
+    }
+    out.push(b'\n');
     write_words(out, "tokens", &read.tokens);
     write_words(out, "events", &read.events);
     write_words(out, "rest", &[rest(record.tokens, &read.tokens), rest(events, &read.events)]);
@@ -127,6 +139,7 @@ fn call(number: u32, settings: u32, events: u32, own: u32) -> Option<Call> {
         (0, NONE, 0) => Some(lent.map_or(Call::Tokens, |events| Call::Section { events })),
         (1, NONE, _) => Some(Call::Tree { events: lent.unwrap_or(0), records: within(own, MOST_RECORD_WORDS)? }),
         (5, NONE, _) => Some(Call::Parts { token: own }),
+        (6, NONE, _) => Some(Call::Value { events: lent.unwrap_or(0), association: own }),
         _ => None,
     }
 }

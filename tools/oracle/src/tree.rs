@@ -1,6 +1,13 @@
-//! The nodes of the tree that the Rust's events spell, by 01's tree rule.
+//! The tree that the Rust's events spell, by 01's tree rule: the steps through it, and its nodes.
 use spar::event::Event;
 use spar::syntax_kind::SyntaxKind;
+
+/// A step through the tree: into a node of a kind, over the next non-trivia token, or out of the innermost node.
+pub enum Step {
+    Enter(SyntaxKind),
+    Token(SyntaxKind),
+    Leave,
+}
 
 /// A node: its kind, its parent's number, the first token it takes and how many stand below it. Nodes and non-trivia tokens count from
 /// 0, and the root is its own parent.
@@ -29,26 +36,37 @@ fn chain(events: &mut [Event], start: usize) -> Vec<SyntaxKind> {
     kinds
 }
 
-/// The nodes in the order in which they open: a Start opens its forward parents first, the outermost of them before all.
-pub fn nodes(mut events: Vec<Event>) -> Vec<Node> {
+/// The steps in order: a Start opens its forward parents first, the outermost of them before all.
+pub fn steps(mut events: Vec<Event>) -> Vec<Step> {
+    let mut steps = Vec::new();
+    for at in 0..events.len() {
+        match events[at] {
+            Event::Start { .. } => steps.extend(chain(&mut events, at).into_iter().rev().map(Step::Enter)),
+            Event::Token { kind, .. } => steps.push(Step::Token(kind)),
+            Event::Finish => steps.push(Step::Leave),
+            Event::Error { .. } | Event::Tombstone => {}
+        }
+    }
+    steps
+}
+
+/// The nodes in the order in which they open.
+pub fn nodes(steps: &[Step]) -> Vec<Node> {
     let mut nodes: Vec<Node> = Vec::new();
     let mut open: Vec<usize> = Vec::new();
     let mut taken = 0;
-    for at in 0..events.len() {
-        match events[at] {
-            Event::Start { .. } => {
-                for kind in chain(&mut events, at).into_iter().rev() {
-                    let parent = open.last().copied().unwrap_or(0);
-                    open.push(nodes.len());
-                    nodes.push(Node { kind, parent, first: taken, below: 0 });
-                }
+    for step in steps {
+        match step {
+            Step::Enter(kind) => {
+                let parent = open.last().copied().unwrap_or(0);
+                open.push(nodes.len());
+                nodes.push(Node { kind: *kind, parent, first: taken, below: 0 });
             }
-            Event::Token { .. } => taken += 1,
-            Event::Finish => {
+            Step::Token(_) => taken += 1,
+            Step::Leave => {
                 let node = &mut nodes[open.pop().expect("a Finish without a Start")];
                 node.below = taken - node.first;
             }
-            Event::Error { .. } | Event::Tombstone => {}
         }
     }
     nodes
