@@ -4,32 +4,57 @@ use crate::source::{Call, Source};
 use std::time::Instant;
 use texts::families::Maker;
 
-/// What is counted of the oracle's answers: their numbers, or of the parts of a number its kind and which of them it has.
+/// What is counted of the oracle's answers: their numbers; of the parts of a number its kind and which of them it has; of values those at the ends of the
+/// range and 0, and of the refusals 9 and 10 where they are.
 const ANSWERS: [&str; 9] = ["read", "no. 1", "no. 2", "no. 3", "no. 4", "no. 5", "no. 6", "no. 7", "no. 8"];
 const PARTS: [&str; 7] = ["integer", "real", "C-style", "none", "based", "closed", "exponent"];
+const VALUES: [&str; 15] = [
+    "value", "zero", "lowest", "highest", "no. 1", "no. 2", "no. 3", "no. 4", "no. 5", "no. 6", "no. 8", "9 end", "9 assoc.", "10 lit.", "10 op.",
+];
 
 /// The kinds in lines `parts`.
-const NONE: usize = 0;
-const ERROR: usize = 2;
-const INTEGER_LIT: usize = 30;
-const REAL_LIT: usize = 31;
+const NONE: i64 = 0;
+const ERROR: i64 = 2;
+const INTEGER_LIT: i64 = 30;
+const REAL_LIT: i64 = 31;
 
 #[derive(Default, Clone)]
 struct Count {
     texts: u64,
-    told: [u64; ANSWERS.len()],
+    told: [u64; VALUES.len()],
     differences: u64,
 }
 
+fn told_of_answer(number: i64) -> [bool; ANSWERS.len()] {
+    std::array::from_fn(|at| at as i64 == number)
+}
+
+fn told_of_parts([kind, _, _, base_end, _, _, closed, exponent]: [i64; 8]) -> [bool; PARTS.len()] {
+    [kind == INTEGER_LIT, kind == REAL_LIT, kind == ERROR, kind == NONE, base_end > 0, closed > 0, exponent > 0]
+}
+
+/// 9 is at the text's end or at an association, 10 at a literal or at an operator.
+fn told_of_value(text: &[u8], [number, place, .., value]: [i64; 6]) -> [bool; VALUES.len()] {
+    let byte = text.get(place as usize);
+    let is_digit = byte.is_some_and(u8::is_ascii_digit);
+    let is = |wanted: i64| number == wanted;
+    let gives = |wanted: i64| is(0) && value == wanted;
+    let ends = [is(0), gives(0), gives(i64::MIN), gives(i64::MAX)];
+    let read = [1, 2, 3, 4, 5, 6, 8].map(is);
+    let computed = [is(9) && byte.is_none(), is(9) && byte.is_some(), is(10) && is_digit, is(10) && !is_digit];
+    let mut all = ends.into_iter().chain(read).chain(computed);
+    std::array::from_fn(|_| all.next().expect("as many as there are columns"))
+}
+
 /// Where in its list a record's answer is counted.
-fn told(group: &[u8]) -> Vec<usize> {
-    if let Some([number, ..]) = answer(group) {
-        return vec![number.min(8)];
-    }
-    let Some([kind, _, _, base_end, _, _, closed, exponent]) = parts(group) else { return Vec::new() };
-    let told: [bool; PARTS.len()] =
-        [kind == INTEGER_LIT, kind == REAL_LIT, kind == ERROR, kind == NONE, base_end > 0, closed > 0, exponent > 0];
-    (0..PARTS.len()).filter(|at| told[*at]).collect()
+fn told(record: &Record, group: &[u8]) -> Vec<usize> {
+    let told = match (record.form, answer(group), parts(group)) {
+        (Form::Value(_), Some(answer), _) => told_of_value(&record.text, answer).to_vec(),
+        (_, Some([number, ..]), _) => told_of_answer(number).to_vec(),
+        (_, None, Some(parts)) => told_of_parts(parts).to_vec(),
+        (_, None, None) => Vec::new(),
+    };
+    (0..told.len()).filter(|at| told[*at]).collect()
 }
 
 fn show(pair: &Pair, names: &[&str], record: &Record) {
@@ -39,6 +64,7 @@ fn show(pair: &Pair, names: &[&str], record: &Record) {
     let own = match record.form {
         Form::Tree(words) => format!(", {words} record words"),
         Form::Parts(number) => format!(", token {number}"),
+        Form::Value(number) => format!(", association {number}"),
         Form::Plain | Form::Extended => String::new(),
     };
     println!("text: \"{}\" ({} bytes), {} token words, {}{}", record.text.escape_ascii(), record.text.len(), record.tokens, events, own);
@@ -72,7 +98,11 @@ fn note(source: &Source, family: usize) -> String {
 }
 
 fn report(source: &Source, counts: &[Count]) {
-    let columns: &[&str] = if source.call == Call::Parts { &PARTS } else { &ANSWERS };
+    let columns: &[&str] = match source.call {
+        Call::Parts => &PARTS,
+        Call::Value => &VALUES,
+        Call::Tokens | Call::Section | Call::Tree => &ANSWERS,
+    };
     line("family", ["texts"].iter().chain(columns).chain(&["differ"]).map(|name| name.to_string()), "");
     let mut sum = Count::default();
     for (i, count) in counts.iter().enumerate().filter(|(_, count)| count.texts > 0) {
@@ -107,12 +137,12 @@ impl Run<'_> {
         for (record, group) in records.iter().zip(answers) {
             let count = &mut self.counts[family(&self.source, record, Some(group))];
             count.texts += 1;
-            for at in told(group) {
+            for at in told(record, group) {
                 count.told[at] += 1;
             }
             let Some([number, _, tokens, _, events, records]) = answer(group) else { continue };
             match number {
-                0 => self.source.again(record, tokens, events, records),
+                0 => self.source.again(record, tokens as usize, events as usize, records as usize),
                 6 => self.source.again_at_openers(record),
                 8 => self.source.again_with_fewer(record),
                 _ => {}

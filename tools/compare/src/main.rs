@@ -1,5 +1,5 @@
 //! Compares the program `replay` with the oracle on texts made here, or writes a sample of records with the oracle's answers.
-//!   compare run COUNT SEED tokens|sections|trees|numbers ORACLE REPLAY
+//!   compare run COUNT SEED tokens|sections|trees|numbers|values ORACLE REPLAY
 //!   compare sample TOKENS SECTIONS ORACLE STDIN STDOUT
 //! tools/README.md says what a record is.
 mod comparison;
@@ -9,12 +9,12 @@ mod source;
 
 use comparison::compare;
 use programs::{records_bytes, Pair, Program};
-use samples::{extended, numbers, sample};
+use samples::{extended, numbers, sample, values};
 use source::Call;
 
 /// A user calls the scripts, which hand on what they are given.
 fn usage() -> ! {
-    eprintln!("tools/compare/run COUNT SEED tokens|sections|trees|numbers [FOLDER]");
+    eprintln!("tools/compare/run COUNT SEED tokens|sections|trees|numbers|values [FOLDER]");
     eprintln!("tools/compare/sample TOKENS [SECTIONS [FOLDER]]");
     std::process::exit(2);
 }
@@ -38,6 +38,7 @@ fn main() {
                 "sections" => Call::Section,
                 "trees" => Call::Tree,
                 "numbers" => Call::Parts,
+                "values" => Call::Value,
                 _ => usage(),
             };
             let same = compare(number(count), number(seed), call, &pair);
@@ -49,6 +50,7 @@ fn main() {
             records.extend(sample(number(sections), true));
             records.extend(extended(&oracle));
             records.extend(numbers(&oracle));
+            records.extend(values(&oracle));
             let input = records_bytes(&records);
             let output = oracle.output(&records);
             std::fs::write(stdin, &input).expect("write");

@@ -9,13 +9,15 @@ pub const TOKENS_ONLY: u32 = u32::MAX;
 /// How often a text is tried without a part.
 const SMALLER_TRIES: usize = 4_000;
 
-/// A record's form: plain; or extended, for the same calls, for the tree call with so many record words, or for the parts of the token with a number.
+/// A record's form: plain; or extended, for the same calls, for the tree call with so many record words, for the parts of the token with a number, or
+/// for the value of the association with a number.
 #[derive(Clone, Copy)]
 pub enum Form {
     Plain,
     Extended,
     Tree(u32),
     Parts(u32),
+    Value(u32),
 }
 
 #[derive(Clone)]
@@ -38,6 +40,7 @@ impl Record {
             Form::Extended => put(&extended(0, 0)),
             Form::Tree(words) => put(&extended(1, words)),
             Form::Parts(number) => put(&extended(5, number)),
+            Form::Value(number) => put(&extended(6, number)),
         }
         out.extend_from_slice(&self.text);
     }
@@ -168,14 +171,14 @@ pub fn groups(output: &[u8]) -> Vec<&[u8]> {
 }
 
 /// The numbers of a record's first line, if it has a name.
-fn numbers(group: &[u8], name: &str) -> Option<Vec<usize>> {
+fn numbers(group: &[u8], name: &str) -> Option<Vec<i64>> {
     let line = group.split(|b| *b == b'\n').next()?;
     let text = std::str::from_utf8(line).ok()?.strip_prefix(name)?.strip_prefix(' ')?;
     text.split(' ').map(|n| n.parse().ok()).collect()
 }
 
-/// The numbers of an answer line: five, and for the tree call that of the records; else 0.
-pub fn answer(group: &[u8]) -> Option<[usize; 6]> {
+/// The numbers of an answer line: five, and for the tree call that of the records, for the value call the value; else 0.
+pub fn answer(group: &[u8]) -> Option<[i64; 6]> {
     let mut numbers = numbers(group, "answer")?;
     if numbers.len() == 5 {
         numbers.push(0);
@@ -184,6 +187,6 @@ pub fn answer(group: &[u8]) -> Option<[usize; 6]> {
 }
 
 /// The numbers of a line `parts`.
-pub fn parts(group: &[u8]) -> Option<[usize; 8]> {
+pub fn parts(group: &[u8]) -> Option<[i64; 8]> {
     numbers(group, "parts")?.try_into().ok()
 }

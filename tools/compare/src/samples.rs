@@ -105,7 +105,7 @@ pub fn extended(oracle: &Program) -> Vec<Record> {
     for (record, group) in whole.iter().zip(groups(&output)) {
         records.push(record.clone());
         let [0, _, tokens, _, events, nodes] = answer(group).expect("an answer") else { continue };
-        let (tokens, events, exact) = (tokens as u32, events as u32, (RECORD * nodes) as u32);
+        let (tokens, events, exact) = (tokens as u32, events as u32, RECORD as u32 * nodes as u32);
         let mut ask = |tokens, events, words| records.push(Record { tokens, events, form: Form::Tree(words), ..record.clone() });
         for words in [exact, exact + 3, exact - 1, exact - RECORD as u32] {
             ask(tokens, events, words);
@@ -152,6 +152,56 @@ pub fn numbers(oracle: &Program) -> Vec<Record> {
             ask(record.tokens, TOKENS_ONLY, number);
         }
         ask(tokens.saturating_sub(1), TOKENS_ONLY, 0);
+    }
+    records
+}
+
+/// Values of each form: constants small, at the ends of the range and beyond, with a base, with signs, in sums and products; and what is no constant.
+const VALUES: [&str; 56] = [
+    "0", "7", "-0", "+1", "- - 1 * - + 2", "1 - 2", "2 - 3 - 4", "1 + 2 * 3", "2 * 3 - 4 * 5", "-2 * -3", "1_000_", "007", "00", "0_0",
+    "9223372036854775807", "9_223_372_036_854_775_807", "9223372036854775808", "-9223372036854775807", "-9223372036854775808",
+    "-9223372036854775807 - 1", "-9223372036854775807 - 2", "9223372036854775807 + 0", "9223372036854775807 + 1", "9223372036854775806 + 1 + 1 - 5",
+    "3037000499 * 3037000499", "3037000500 * 3037000500", "-3037000500 * 3037000500", "4294967296 * -2147483648", "4294967296 * 2147483648",
+    "-9223372036854775807 - 1 * -1", "9223372036854775807 + 9223372036854775808", "9223372036854775808 * 0", "0 * 9223372036854775808",
+    "9223372036854775807 * 2 + 99999999999999999999", "1 + 9223372036854775807 - 9223372036854775808", "340282366920938463463374607431768211456",
+    "16#F_F# + 2 * 3", "0016#_f#", "2#1111_0000#", "16#7FFF_FFFF_FFFF_FFFF#", "16#8000_0000_0000_0000#", "16#1_0000_0000_0000_0000#", "3#2_1_0#",
+    "16#F", "16#_#", "10#F#", "17#1#", "1#0#", "1 ms", "4 / 2", "1 .. 2", "(1)", "9223372036854775808 + 1 ms", "1.0", "a", "- (1)",
+];
+
+/// Sections of several associations, of none, and such as are not clean.
+const SUMS: [&str; 9] = [
+    "properties A => 1 ms, 2; B :: C +=> constant 5 in modes (m), 6;",
+    "properties A => 1; B => 2;",
+    "properties none;",
+    "properties",
+    "properties -- 1\n  A =>-- 2\n\t3 -- 4\r\n + -- 5\n 6 applies to x; B => [c => 1;]; C => 9223372036854775807*2; D => \"e\" in modes (f);",
+    "properties A => 1; }",
+    "properties A => 1; B => ;",
+    "properties A => 1",
+    "properties A => \"1;",
+];
+
+/// Records of the value call: of each value the only association, and of each section every one that may be there, the first behind them and the greatest
+/// number; then of each section, by the oracle's answers, the first association with exactly as many words, one fewer of each sort, and none of the second.
+pub fn values(oracle: &Program) -> Vec<Record> {
+    let ask = |text: &str, number| {
+        let bytes = text.len() as u32;
+        Record { family: 0, text: text.into(), tokens: bytes, events: 8 * bytes, form: Form::Value(number) }
+    };
+    let mut records: Vec<Record> = VALUES.iter().map(|value| ask(&format!("properties A => {value};"), 0)).collect();
+    for section in SUMS {
+        let arrows = section.matches("=>").count() as u32;
+        records.extend((0..=arrows).chain([u32::MAX]).map(|number| ask(section, number)));
+    }
+    let whole: Vec<Record> = records.iter().map(|record| Record { form: Form::Extended, ..record.clone() }).collect();
+    let output = oracle.output(&whole);
+    let read: Vec<_> = records.iter().cloned().zip(groups(&output).into_iter().map(|group| answer(group).expect("an answer"))).collect();
+    for (record, [number, _, tokens, _, events, _]) in read.into_iter().step_by(3) {
+        if number == 0 {
+            let (tokens, events) = (tokens as u32, events as u32);
+            let lent = [(tokens, events), (tokens, events - 1), (tokens - 1, events), (tokens, TOKENS_ONLY)];
+            records.extend(lent.map(|(tokens, events)| Record { tokens, events, ..record.clone() }));
+        }
     }
     records
 }

@@ -2,7 +2,7 @@
 use crate::programs::{Form, Record, TOKENS_ONLY};
 use texts::families::{self, Family, Maker};
 use texts::random::Rng;
-use texts::{lexer, sections};
+use texts::{lexer, sections, values};
 
 /// The most bytes, token words or event words that a record has, and the most record words.
 const MOST: usize = 40_000;
@@ -24,6 +24,9 @@ const QUOTE_ONCE_IN: usize = 16;
 /// Of the answered records, one in so many is asked again with exactly enough words, and with too few.
 const AGAIN_ONCE_IN: usize = 8;
 
+/// For the value call a long chain once in so many.
+const CHAIN_ONCE_IN: usize = 1_000;
+
 /// For the parts of numbers a text at random is asked about its first token, and again about so many others.
 const OTHER_TOKENS: usize = 3;
 
@@ -34,6 +37,7 @@ pub enum Call {
     Section,
     Tree,
     Parts,
+    Value,
 }
 
 pub struct Source {
@@ -45,7 +49,7 @@ pub struct Source {
     asked: Vec<Record>,
 }
 
-const EXTRA: [&str; 5] = ["long texts", "many events", "word counts", "unclosed strings", "other tokens"];
+const EXTRA: [&str; 6] = ["long texts", "many events", "word counts", "unclosed strings", "other tokens", "long chains"];
 
 impl Source {
     pub fn new(seed: u64, call: Call) -> Source {
@@ -53,6 +57,7 @@ impl Source {
             Call::Tokens => families::tokens(),
             Call::Parts => families::numbers(),
             Call::Section | Call::Tree => families::sections(),
+            Call::Value => families::values(),
         };
         let names = families.iter().map(|f| f.name).chain(EXTRA).collect();
         Source { families, names, call, rng: Rng::new(seed), asked: Vec::new() }
@@ -92,8 +97,11 @@ impl Source {
         if self.rng.once_in(LONG_ONCE_IN) {
             return (self.extra(0), lexer::long(&mut self.rng));
         }
-        if matches!(self.call, Call::Section | Call::Tree) && self.rng.once_in(LONG_ONCE_IN) {
+        if matches!(self.call, Call::Section | Call::Tree | Call::Value) && self.rng.once_in(LONG_ONCE_IN) {
             return (self.extra(1), sections::many_events(&mut self.rng));
+        }
+        if self.call == Call::Value && self.rng.once_in(CHAIN_ONCE_IN) {
+            return (self.extra(5), values::chain(&mut self.rng));
         }
         let family = self.family();
         let text = match &mut self.families[family].maker {
@@ -138,12 +146,28 @@ impl Source {
                 let tokens = if self.rng.once_in(4) { self.lent(bytes) } else { words };
                 (tokens, *self.rng.pick(&[TOKENS_ONLY, 0, 1, MOST as u32]), Form::Parts(0))
             }
+            Call::Value => {
+                let events = if self.rng.once_in(8) { self.lent(8 * bytes) } else { (8 * bytes).min(MOST) as u32 };
+                let number = self.association(&text);
+                (words, if self.rng.once_in(128) { TOKENS_ONLY } else { events }, Form::Value(number))
+            }
         };
         let record = Record { family, text, tokens, events, form };
         if self.call == Call::Parts && !self.gives_every(family) {
             self.ask_about_others(&record);
         }
         record
+    }
+
+    /// The number of an association: mostly of one that is there, by the arrows of the text outside of comments; else of the first behind them, or any.
+    fn association(&mut self, text: &[u8]) -> u32 {
+        let text = String::from_utf8_lossy(text);
+        let arrows = text.lines().filter_map(|line| line.split("--").next()).flat_map(|line| line.matches("=>")).count();
+        match self.rng.below(32) {
+            0 => self.rng.next() as u32,
+            1 => arrows as u32,
+            _ => self.rng.below(arrows.max(1)) as u32,
+        }
     }
 
     /// The same text with other token numbers: mostly as if a token had four bytes or more, so that many are there; else up to one above the text's bytes, since there
@@ -174,12 +198,12 @@ impl Source {
                 self.asked.push(ask(tokens, TOKENS_ONLY, Form::Plain));
                 self.asked.push(ask(fewer(tokens), TOKENS_ONLY, Form::Plain));
             }
-            Call::Section => {
-                self.asked.push(ask(tokens, events as u32, Form::Plain));
-                self.asked.push(ask(tokens, fewer(events) as u32, Form::Plain));
-                self.asked.push(ask(fewer(tokens), events as u32, Form::Plain));
+            Call::Section | Call::Value => {
+                self.asked.push(ask(tokens, events as u32, record.form));
+                self.asked.push(ask(tokens, fewer(events) as u32, record.form));
+                self.asked.push(ask(fewer(tokens), events as u32, record.form));
                 let any = self.rng.below(events + 1) as u32;
-                self.asked.push(ask(tokens, any, Form::Plain));
+                self.asked.push(ask(tokens, any, record.form));
             }
             Call::Tree => {
                 let exact = RECORD * records;

@@ -27,9 +27,9 @@ enum Child<'a> {
     Node(Value),
 }
 
-/// A base from 2 to 16, by its decimal digits.
+/// A base from 2 to 16, by its decimal digits, among which no underscore can stand.
 fn base(digits: &str) -> Option<u32> {
-    digits.replace('_', "").parse().ok().filter(|base| (2..=16).contains(base))
+    digits.parse().ok().filter(|base| (2..=16).contains(base))
 }
 
 /// The digits of a literal and their base, if it is a constant.

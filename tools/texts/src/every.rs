@@ -2,6 +2,7 @@
 
 pub struct Every {
     before: Vec<u8>,
+    behind: Vec<u8>,
     pieces: Vec<Vec<u8>>,
     longest: usize,
     total: u64,
@@ -24,7 +25,7 @@ impl Every {
         while common(total, step) != 1 {
             step += 1;
         }
-        Every { before: before.as_bytes().to_vec(), pieces, longest, total, step, given: 0 }
+        Every { before: before.as_bytes().to_vec(), behind: Vec::new(), pieces, longest, total, step, given: 0 }
     }
 
     /// What stands before, then a string over some bytes.
@@ -36,6 +37,11 @@ impl Every {
     pub fn words(before: &str, words: &str, longest: usize) -> Every {
         let pieces = words.split_whitespace().map(|w| format!(" {}", w).into_bytes()).collect();
         Every::new(before, pieces, longest)
+    }
+
+    /// The same with something behind each sequence.
+    pub fn then(self, behind: &str) -> Every {
+        Every { behind: behind.as_bytes().to_vec(), ..self }
     }
 
     pub fn total(&self) -> u64 {
@@ -65,6 +71,7 @@ impl Every {
             text.extend_from_slice(&self.pieces[(number % base) as usize]);
             number /= base;
         }
+        text.extend_from_slice(&self.behind);
         Some(text)
     }
 }

@@ -1,7 +1,7 @@
-//! The families of texts, for the tokens-only call, for the parts of numbers and for the section call.
+//! The families of texts, for the tokens-only call, for the parts of numbers, for the section call and for values.
 use crate::every::Every;
 use crate::random::Rng;
-use crate::{lexer, sections};
+use crate::{lexer, sections, values};
 
 pub enum Maker {
     /// Each text once, until there is none left.
@@ -139,4 +139,29 @@ pub fn sections() -> Vec<Family> {
         random("openers", 15, openers),
         random("lexer texts", 20, lexer_text),
     ]
+}
+
+fn sums(rng: &mut Rng) -> Vec<u8> {
+    let words = values::section(rng);
+    sections::layout(&words, rng)
+}
+
+fn damaged_sums(rng: &mut Rng) -> Vec<u8> {
+    let mut words = values::section(rng);
+    sections::damage(&mut words, rng);
+    sections::layout(&words, rng)
+}
+
+/// Sections most of which have whole numbers to compute, and all others.
+pub fn values() -> Vec<Family> {
+    let highest = "1 0 - + * 9223372036854775807 9223372036854775808 16#F# ms";
+    let mut families = vec![
+        every("every sum", Every::words("properties a =>", highest, 5).then(";")),
+        every("every end", Every::words("properties a => - 9223372036854775807", "- + * 0 1 2 /", 6).then(";")),
+        every("every based literal", Every::bytes("properties a=>", b"0126#F_", 6).then(";")),
+        random("sums", 300, sums),
+        random("damaged sums", 40, damaged_sums),
+    ];
+    families.extend(sections());
+    families
 }

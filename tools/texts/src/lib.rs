@@ -6,4 +6,5 @@ pub mod lexer;
 pub mod random;
 pub mod sections;
 pub mod strings;
+pub mod values;
 pub mod words;

@@ -3,13 +3,13 @@ use crate::lexer::one_of;
 use crate::random::Rng;
 use crate::words::{CLEAN_LITERALS, KEYWORDS, LITERALS, MARKS, NAMES};
 
-type Words = Vec<String>;
+pub type Words = Vec<String>;
 
-fn word(out: &mut Words, w: &str) {
+pub fn word(out: &mut Words, w: &str) {
     out.push(w.to_string());
 }
 
-fn one(out: &mut Words, rng: &mut Rng, from: &str) {
+pub fn one(out: &mut Words, rng: &mut Rng, from: &str) {
     word(out, one_of(rng, from));
 }
 
@@ -165,7 +165,7 @@ fn call(out: &mut Words, rng: &mut Rng, depth: usize) {
     word(out, ")");
 }
 
-fn operand(out: &mut Words, rng: &mut Rng, depth: usize) {
+pub fn operand(out: &mut Words, rng: &mut Rng, depth: usize) {
     let deep = depth.saturating_sub(1);
     match rng.below(if depth == 0 { 6 } else { 12 }) {
         0 | 1 => {
@@ -211,7 +211,7 @@ fn expression(out: &mut Words, rng: &mut Rng, depth: usize) {
     }
 }
 
-fn modes(out: &mut Words, rng: &mut Rng) {
+pub fn modes(out: &mut Words, rng: &mut Rng) {
     out.extend(["in", "modes", "("].map(String::from));
     if !rng.once_in(5) {
         name(out, rng);
@@ -225,7 +225,7 @@ fn modes(out: &mut Words, rng: &mut Rng) {
     word(out, ")");
 }
 
-fn reference(out: &mut Words, rng: &mut Rng) {
+pub fn reference(out: &mut Words, rng: &mut Rng) {
     ident(out, rng);
     if rng.once_in(3) {
         word(out, "::");
@@ -251,7 +251,7 @@ fn values(out: &mut Words, rng: &mut Rng, depth: usize) {
     }
 }
 
-fn applies(out: &mut Words, rng: &mut Rng) {
+pub fn applies(out: &mut Words, rng: &mut Rng) {
     out.extend(["applies", "to"].map(String::from));
     path(out, rng);
     while rng.once_in(3) {
