@@ -1,11 +1,11 @@
 /* Gigboda for C99 and C++: the tokens of an AADL text and the parts of its numbers, the events of its property section, the tree that they
- * spell, all of it in words.
+ * spell, the whole numbers that its values are, all of it in words.
  *
  * Link with target/staticlib/libcapi.a, which `rt staticlib capi` writes (x86-64):
  *
  *     cc -std=c99 -I bindings/c FILE.c target/staticlib/libcapi.a
  *
- * The library has five functions, and they are proved: crates/capi/src/lib.rt says what each leaves, for every text, every number of lent
+ * The library has six functions, and they are proved: crates/capi/src/lib.rt says what each leaves, for every text, every number of lent
  * words and whatever the words hold. All else is inline in this header, which needs gigboda_kinds.h beside it, and is tested, not proved
  * (bindings/c/test).
  *
@@ -24,7 +24,7 @@ extern "C" {
 #endif
 
 #define GIGBODA_VERSION_MAJOR 0
-#define GIGBODA_VERSION_MINOR 6
+#define GIGBODA_VERSION_MINOR 7
 #define GIGBODA_VERSION_PATCH 0
 #define GIGBODA_QUOTED_NUMBERS(major, minor, patch) #major "." #minor "." #patch
 #define GIGBODA_QUOTED(major, minor, patch) GIGBODA_QUOTED_NUMBERS(major, minor, patch)
@@ -78,6 +78,12 @@ struct gigboda_tree_answer {
     size_t records;               /* how many records are filled, one for each node; 0 in a refusal */
 };
 
+/* What the value call answers. */
+struct gigboda_value_answer {
+    struct gigboda_answer answer; /* the section call's, or a refusal 9 or 10 */
+    int64_t value;                /* the association's value; 0 in a refusal */
+};
+
 /* Why a text is refused, and what the place is then. */
 enum gigboda_refusal {
     GIGBODA_REFUSAL_NONE = 0,          /* not refused */
@@ -89,7 +95,10 @@ enum gigboda_refusal {
     GIGBODA_REFUSAL_TOO_DEEP = 6,      /* a 65th open `(`, `[`, `not` or sign; its start */
     GIGBODA_REFUSAL_NO_RECORD = 7,     /* more nodes than lent records; start of the first token of the first without one, or of the token
                                         * that comes next if it has none, or the text's length */
-    GIGBODA_REFUSAL_UNCLOSED_STRING = 8 /* a string that is not closed; its opening quote */
+    GIGBODA_REFUSAL_UNCLOSED_STRING = 8, /* a string that is not closed; its opening quote */
+    GIGBODA_REFUSAL_NO_VALUE = 9, /* an association's first value is no constant; the association's start. Or the text is not clean, or has no
+                                   * such association; the text's length */
+    GIGBODA_REFUSAL_OUT_OF_RANGE = 10 /* a literal or a partial result does not fit in 64 bits with a sign; the literal or the operator */
 };
 
 /* A refusal's number in words, those of docs/REFUSALS.md. */
@@ -105,6 +114,8 @@ static inline const char *gigboda_refusal_text(size_t number)
     case GIGBODA_REFUSAL_TOO_DEEP: return "nested more than 64 deep";
     case GIGBODA_REFUSAL_NO_RECORD: return "more nodes than the tool has room for";
     case GIGBODA_REFUSAL_UNCLOSED_STRING: return "a string is not closed";
+    case GIGBODA_REFUSAL_NO_VALUE: return "no whole number to compute";
+    case GIGBODA_REFUSAL_OUT_OF_RANGE: return "a number is out of range";
     default: return "(no refusal)";
     }
 }
@@ -118,6 +129,10 @@ void gigboda_property_section(const char *text, size_t text_len, uint32_t *token
 /* The tree call. Its answer has a sixth number, how many records are filled. */
 void gigboda_property_tree(const char *text, size_t text_len, uint32_t *tokens, size_t tokens_len, uint32_t *events, size_t events_len,
                            uint32_t *records, size_t records_len, size_t *answer, size_t answer_len);
+
+/* The value call. It returns the value of the association with a number, 0 in a refusal; the answer is as the section call's. */
+int64_t gigboda_association_value(const char *text, size_t text_len, uint32_t *tokens, size_t tokens_len, uint32_t *events,
+                                  size_t events_len, size_t number, size_t *answer, size_t answer_len);
 
 /* The tokens-only call. */
 void gigboda_tokenize(const char *text, size_t text_len, uint32_t *tokens, size_t tokens_len, size_t *answer, size_t answer_len);
@@ -173,6 +188,23 @@ static inline struct gigboda_tree_answer gigboda_read_tree(const char *text, siz
     tree.answer = gigboda_answer_of(numbers);
     tree.records = numbers[5];
     return tree;
+}
+
+/* The value call: what the section call does, and the whole number that an association's first value is. Associations count from 0. The
+ * value is computed where it is a constant: integers without a unit, with and without a base, signs, and `+`, `-` and `*`, of which `*` comes
+ * before the others; `(1)` is a list. Every literal, read without its sign, and every partial result must lie within 64 bits with a sign. A
+ * refusal (1 to 6, or 8 to 10) leaves every lent word 0; 9 and 10 come after the others. */
+static inline struct gigboda_value_answer gigboda_read_value(const char *text, size_t text_len, uint32_t *tokens, size_t tokens_len,
+                                                             uint32_t *events, size_t events_len, size_t association)
+{
+    size_t numbers[5] = {0, 0, 0, 0, 0};
+    uint32_t none[2];
+    struct gigboda_value_answer read;
+
+    read.value = gigboda_association_value(text ? text : "", text_len, tokens ? tokens : &none[0], tokens_len,
+                                           events ? events : &none[1], events_len, association, numbers, 5);
+    read.answer = gigboda_answer_of(numbers);
+    return read;
 }
 
 /* The tokens-only call: the same without a section. It has the refusals 1 to 3 and 8, and answers 0 taken and 0 events. */

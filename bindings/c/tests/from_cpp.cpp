@@ -16,6 +16,12 @@ static gigboda_tree_answer read_tree(const std::string &text, std::vector<uint32
                              records.size());
 }
 
+static gigboda_value_answer read_value(const std::string &text, std::vector<uint32_t> &tokens, std::vector<uint32_t> &events,
+                                       size_t association)
+{
+    return gigboda_read_value(text.data(), text.size(), tokens.data(), tokens.size(), events.data(), events.size(), association);
+}
+
 static gigboda_number read_number(const std::string &text, const std::vector<uint32_t> &tokens, size_t token)
 {
     return gigboda_read_number(text.data(), text.size(), tokens.data(), tokens.size(), token);
@@ -52,5 +58,9 @@ int main()
     std::string same;
     for (size_t node = 0; node < tree.records; node++)
         same += std::string(gigboda_kind_name(gigboda_record_of(records.data(), node).kind)) + ' ';
-    return same == kinds ? 0 : 6;
+    if (same != kinds)
+        return 6;
+    if (read_value(text, tokens, events, 0).answer.number != GIGBODA_REFUSAL_NO_VALUE)
+        return 7;
+    return read_value("properties A => 1; B => 2 * -3;", tokens, events, 1).value == -6 ? 0 : 8;
 }

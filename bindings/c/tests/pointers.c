@@ -24,6 +24,13 @@ void gigboda_property_tree(const char *text, size_t text_len, uint32_t *tokens, 
          && text_len + tokens_len + events_len + records_len == 0 && answer_len == 6);
 }
 
+int64_t gigboda_association_value(const char *text, size_t text_len, uint32_t *tokens, size_t tokens_len, uint32_t *events,
+                                  size_t events_len, size_t number, size_t *answer, size_t answer_len)
+{
+    look(text && tokens && events && tokens != events && answer && text_len + tokens_len + events_len + number == 0 && answer_len == 5);
+    return 0;
+}
+
 void gigboda_tokenize(const char *text, size_t text_len, uint32_t *tokens, size_t tokens_len, size_t *answer, size_t answer_len)
 {
     look(text && tokens && answer && text_len + tokens_len == 0 && answer_len == 5);
@@ -45,9 +52,10 @@ int main(void)
 {
     gigboda_read_section(NULL, 0, NULL, 0, NULL, 0);
     gigboda_read_tree(NULL, 0, NULL, 0, NULL, 0, NULL, 0);
+    gigboda_read_value(NULL, 0, NULL, 0, NULL, 0, 0);
     gigboda_read_tokens(NULL, 0, NULL, 0);
     gigboda_token_part(NULL, 0, NULL, 0, 0);
     gigboda_read_number(NULL, 0, NULL, 0, 0);
     printf("%d calls, %d with a pointer that must not be\n", calls, bad);
-    return calls != 5 || bad != 0;
+    return calls != 6 || bad != 0;
 }

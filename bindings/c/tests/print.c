@@ -4,6 +4,7 @@
  *     print walks           for each section record of standard input the call's answer, and the steps through its tree
  *     print trees           for each the tree call's answer, with half as many record words lent as event words where the record does not
  *                           say how many; and each node's record, text, children, and the innermost node of its first token
+ *     print values          for each the value call's answer: for the association that the record names, or else for the first
  *     print places          for each the line and column of every place of its text
  *     print numbers         for each the tokens of its text that are numbers, with their parts
  *
@@ -17,7 +18,7 @@ enum { MOST = 40000 }; /* of each number in a record */
 
 static char text[MOST];
 static uint32_t tokens[MOST], events[MOST], records[GIGBODA_RECORD_WORDS * MOST];
-static uint32_t length, lent_tokens, lent_events, lent_records; /* of a record of standard input */
+static uint32_t length, lent_tokens, lent_events, lent_records, association; /* of a record of standard input */
 
 static void print_tables(void)
 {
@@ -26,7 +27,7 @@ static void print_tables(void)
     printf("version %s\n", GIGBODA_VERSION);
     for (n = 0; n < GIGBODA_KIND_COUNT; n++)
         printf("kind %u %s\n", n, gigboda_kind_name(n));
-    for (n = GIGBODA_REFUSAL_TOO_LONG; n <= GIGBODA_REFUSAL_UNCLOSED_STRING; n++)
+    for (n = GIGBODA_REFUSAL_TOO_LONG; n <= GIGBODA_REFUSAL_OUT_OF_RANGE; n++)
         printf("refusal %u %s\n", n, gigboda_refusal_text(n));
     for (n = GIGBODA_MESSAGE_NO_ARROW; n <= GIGBODA_MESSAGE_VIRTUAL_ALONE; n++)
         printf("message %u %s\n", n, gigboda_message_text(n));
@@ -87,6 +88,14 @@ static void print_tree(void)
         print_node(&tree, node);
 }
 
+static void print_value(void)
+{
+    struct gigboda_value_answer read = gigboda_read_value(text, length, tokens, lent_tokens, events, lent_events, association);
+
+    printf("%zu %zu %zu %zu %zu %lld\n", read.answer.number, read.answer.place, read.answer.tokens, read.answer.taken, read.answer.events,
+           (long long)read.value);
+}
+
 static void print_places(void)
 {
     size_t place;
@@ -125,19 +134,18 @@ static int read_number(uint32_t *number)
 /* The record's other numbers and its text. */
 static int read_rest(void)
 {
-    uint32_t call = 0, settings = NONE;
+    uint32_t call = 0, settings = NONE, own = 0;
     int good;
 
-    if (length != NONE) {
+    if (length != NONE)
         good = read_number(&lent_tokens) && read_number(&lent_events);
-        lent_records = lent_events / 2;
-    } else {
+    else
         good = read_number(&call) && read_number(&settings) && read_number(&length) && read_number(&lent_tokens)
-               && read_number(&lent_events) && read_number(&lent_records);
-        lent_records = call == 1 ? lent_records : lent_events / 2;
-        lent_events = call == 5 ? NONE : lent_events; /* a number's parts: no section */
-    }
-    return good && (call <= 1 || call == 5) && settings == NONE && length <= MOST && lent_tokens <= MOST
+               && read_number(&lent_events) && read_number(&own);
+    lent_records = call == 1 ? own : lent_events / 2;
+    association = call == 6 ? own : 0;
+    lent_events = call == 5 ? NONE : lent_events; /* a number's parts: no section */
+    return good && (call <= 1 || call == 5 || call == 6) && settings == NONE && length <= MOST && lent_tokens <= MOST
            && (lent_events == NONE || (lent_events <= MOST && lent_records <= GIGBODA_RECORD_WORDS * MOST))
            && fread(text, 1, length, stdin) == length;
 }
@@ -162,6 +170,8 @@ int main(int count, char **arguments)
         return print_all(print_walk);
     if (count == 2 && strcmp(arguments[1], "trees") == 0)
         return print_all(print_tree);
+    if (count == 2 && strcmp(arguments[1], "values") == 0)
+        return print_all(print_value);
     if (count == 2 && strcmp(arguments[1], "places") == 0)
         return print_all(print_places);
     if (count == 2 && strcmp(arguments[1], "numbers") == 0)

@@ -56,6 +56,13 @@ static const char *tree_numbers(struct gigboda_tree_answer tree)
     return shown;
 }
 
+static const char *value_numbers(struct gigboda_value_answer read)
+{
+    numbers(read.answer);
+    sprintf(shown + strlen(shown), ", %lld", (long long)read.value);
+    return shown;
+}
+
 /* A node's record in a row. */
 static const char *record(size_t node)
 {
@@ -112,7 +119,9 @@ static void refusals_have_words(void)
     CHECK_SAME(gigboda_refusal_text(2), "the text is not UTF-8");
     CHECK_SAME(gigboda_refusal_text(GIGBODA_REFUSAL_NO_RECORD), "more nodes than the tool has room for");
     CHECK_SAME(gigboda_refusal_text(GIGBODA_REFUSAL_UNCLOSED_STRING), "a string is not closed");
-    CHECK_SAME(gigboda_refusal_text(9), "(no refusal)");
+    CHECK_SAME(gigboda_refusal_text(GIGBODA_REFUSAL_NO_VALUE), "no whole number to compute");
+    CHECK_SAME(gigboda_refusal_text(GIGBODA_REFUSAL_OUT_OF_RANGE), "a number is out of range");
+    CHECK_SAME(gigboda_refusal_text(11), "(no refusal)");
 }
 
 static void messages_have_words(void)
@@ -150,7 +159,7 @@ static void a_refusal_leaves_zeros(void)
     CHECK(tokens[0] == 0 && tokens[8] == 7 && events[0] == 0 && events[8] == 7);
 }
 
-/* At its opening quote, after 3 and before 4, by all three calls. */
+/* At its opening quote, after 3 and before 4, by all calls. */
 static void a_string_that_is_not_closed_is_refused_8(void)
 {
     tokens[0] = tokens[8] = events[0] = events[8] = 7;
@@ -160,6 +169,7 @@ static void a_string_that_is_not_closed_is_refused_8(void)
     CHECK_SAME(numbers(gigboda_read_tokens("a \"", 3, tokens, 8)), "8 2 0 0 0");
     CHECK_SAME(numbers(gigboda_read_tokens("a \"\"", 4, tokens, 8)), "0 0 3 0 0");
     CHECK_SAME(tree_numbers(gigboda_read_tree("none; \"", 7, tokens, 8, events, 8, records, 2)), "8 6 0 0 0, 0");
+    CHECK_SAME(value_numbers(gigboda_read_value("none; \"", 7, tokens, 8, events, 8, 0)), "8 6 0 0 0, 0");
 }
 
 static void the_tree_call_answers(void)
@@ -258,6 +268,8 @@ static void null_with_length_0_is_allowed(void)
     CHECK_SAME(numbers(gigboda_read_section("properties", 10, tokens, 1, NULL, 0)), "5 0 0 0 0");
     CHECK_SAME(tree_numbers(gigboda_read_tree(NULL, 0, NULL, 0, NULL, 0, NULL, 0)), "4 0 0 0 0, 0");
     CHECK_SAME(tree_numbers(gigboda_read_tree("properties", 10, tokens, 1, events, 3, NULL, 0)), "7 0 0 0 0, 0");
+    CHECK_SAME(value_numbers(gigboda_read_value(NULL, 0, NULL, 0, NULL, 0, 0)), "4 0 0 0 0, 0");
+    CHECK_SAME(value_numbers(gigboda_read_value("properties", 10, tokens, 1, NULL, 0, 0)), "5 0 0 0 0, 0");
     CHECK_SAME(numbers(gigboda_read_tokens(NULL, 0, NULL, 0)), "0 0 0 0 0");
     CHECK_SAME(numbers(gigboda_read_tokens("a", 1, NULL, 0)), "3 0 0 0 0");
     CHECK(gigboda_position_of(NULL, 0, 3).column == 1);
@@ -377,6 +389,142 @@ static void parts_keep_to_what_is_lent(void)
         }
     }
 }
+
+/* ---- Values ---- */
+
+static struct gigboda_value_answer read_value_of(const char *section, size_t association)
+{
+    return gigboda_read_value(section, strlen(section), tokens, GIGBODA_MOST_BYTES, events, GIGBODA_MOST_EVENTS, association);
+}
+
+/* The value of a section's only association, or the refusal's number and place. The association is at 11, its value at 16. */
+static const char *valued(const char *value)
+{
+    struct gigboda_value_answer read;
+
+    sprintf(text, "properties A => %s;", value);
+    read = read_value_of(text, 0);
+    if (read.answer.number == GIGBODA_REFUSAL_NONE)
+        sprintf(shown, "%lld", (long long)read.value);
+    else
+        sprintf(shown, "%zu at %zu", read.answer.number, read.answer.place);
+    return shown;
+}
+
+static void constants_have_their_value(void)
+{
+    static const char *const rows[][2] = {
+        {"0", "0"}, {"-0", "0"}, {"007", "7"}, {"1_000_", "1000"}, {"+ - 5", "-5"}, {"2 - 3 - 4", "-5"}, {"1 + 2 * 3", "7"},
+        {"2 * 3 - 4 * 5", "-14"}, {"- - 1 * - + 2", "-2"}, {"1 -- 2\n + 3", "4"}, {"16#F_F# + 2 * 3", "261"}, {"0016#_f#", "15"},
+        {"2#1010#", "10"}, {"16#aBcDeF#", "11259375"},
+    };
+    size_t i;
+
+    for (i = 0; i < COUNT(rows); i++)
+        CHECK_SAME(valued(rows[i][0]), rows[i][1]);
+}
+
+/* A literal counts without its sign; then the left operand, the right one, the operator. */
+static void values_keep_to_the_range(void)
+{
+    static const char *const rows[][2] = {
+        {"9223372036854775807", "9223372036854775807"}, {"-9223372036854775807 - 1", "-9223372036854775808"},
+        {"16#7FFF_FFFF_FFFF_FFFF#", "9223372036854775807"}, {"4294967296 * -2147483648", "-9223372036854775808"},
+        {"9223372036854775808", "10 at 16"}, {"-9223372036854775808", "10 at 17"}, {"16#8000_0000_0000_0000#", "10 at 16"},
+        {"-9223372036854775807 - 2", "10 at 37"}, {"9223372036854775807 + 1 - 1", "10 at 36"}, {"3037000500 * 3037000500", "10 at 27"},
+        {"9223372036854775807 + 9223372036854775808", "10 at 38"}, {"9223372036854775808 * 0", "10 at 16"},
+        {"9223372036854775807 * 2 + 9223372036854775808", "10 at 36"}, {"1 + 3037000500 * 3037000500 - 9223372036854775808", "10 at 31"},
+    };
+    size_t i;
+
+    for (i = 0; i < COUNT(rows); i++)
+        CHECK_SAME(valued(rows[i][0]), rows[i][1]);
+}
+
+/* 9, at the association's start. */
+static void what_is_no_constant_has_no_value(void)
+{
+    static const char *const values[] = {
+        "16#F", "16#_#", "16##", "10#F#", "17#1#", "1#0#", "0#0#", "1 ms", "4 / 2", "1 .. 2", "(1)", "-(1)", "1.0", "1e3", "a", "1 + a::b",
+        "-a", "\"1\"", "true", "not 1", "[a => 1;]", "9223372036854775808 + 1 ms", "9223372036854775807 * 2 * 16#F",
+    };
+    size_t i;
+
+    for (i = 0; i < COUNT(values); i++)
+        CHECK_SAME(valued(values[i]), "9 at 11");
+}
+
+static void associations_count_from_0(void)
+{
+    const char *section = "properties A => 1 ms, 2; B :: C +=> constant 5 in modes (m), 6;";
+
+    CHECK_SAME(value_numbers(read_value_of(section, 0)), "9 11 0 0 0, 0");
+    CHECK(read_value_of(section, 1).value == 5);
+    CHECK_SAME(value_numbers(read_value_of(section, 2)), "9 63 0 0 0, 0");
+    CHECK_SAME(value_numbers(read_value_of(section, SIZE_MAX)), "9 63 0 0 0, 0");
+    CHECK_SAME(value_numbers(read_value_of("properties none;", 0)), "9 16 0 0 0, 0");
+    CHECK_SAME(value_numbers(read_value_of("properties A => 1; }", 0)), "9 20 0 0 0, 0");
+    CHECK_SAME(value_numbers(read_value_of("properties A => 1; B => ; --", 0)), "9 28 0 0 0, 0");
+    CHECK_SAME(value_numbers(read_value_of("properties A => 9223372036854775808", 0)), "9 35 0 0 0, 0");
+}
+
+/* The section call's answer and words; a refusal leaves zeros in all that is lent. */
+static void values_leave_the_sections_words(void)
+{
+    const char *section = "properties A => 1 - 3;";
+
+    tokens[12] = tokens[13] = events[19] = events[20] = 7;
+    CHECK_SAME(value_numbers(gigboda_read_value(section, 22, tokens, 13, events, 20, 0)), "0 0 12 7 19, -2");
+    CHECK(tokens[0] == 3932170 && events[1] == 20709377 && tokens[12] == 7 && events[19] == 7);
+    CHECK_SAME(value_numbers(gigboda_read_value(section, 22, tokens, 13, events, 20, 1)), "9 22 0 0 0, 0");
+    CHECK(is_zero_up_to(tokens, 13) && is_zero_up_to(events, 20));
+    section = "properties A => 9223372036854775808;";
+    memset(tokens, 255, 13 * sizeof tokens[0]);
+    memset(events, 255, 20 * sizeof events[0]);
+    CHECK_SAME(value_numbers(gigboda_read_value(section, 36, tokens, 13, events, 20, 0)), "10 16 0 0 0, 0");
+    CHECK(is_zero_up_to(tokens, 13) && is_zero_up_to(events, 20));
+}
+
+/* Each of these has no association 7, either. */
+static void what_is_refused_1_to_8_is_not_refused_9(void)
+{
+    CHECK_SAME(value_numbers(gigboda_read_value(text, GIGBODA_MOST_BYTES + 1, tokens, 8, events, 8, 7)), "1 32768 0 0 0, 0");
+    CHECK_SAME(value_numbers(gigboda_read_value("properties \377", 12, tokens, 8, events, 8, 7)), "2 11 0 0 0, 0");
+    CHECK_SAME(value_numbers(gigboda_read_value("properties a", 12, tokens, 2, events, 8, 7)), "3 11 0 0 0, 0");
+    CHECK_SAME(value_numbers(gigboda_read_value("properties \"", 12, tokens, 8, events, 0, 7)), "8 11 0 0 0, 0");
+    CHECK_SAME(value_numbers(gigboda_read_value("none;", 5, tokens, 2, events, 0, 7)), "4 0 0 0 0, 0");
+    CHECK_SAME(value_numbers(gigboda_read_value("properties", 10, tokens, 2, events, 2, 7)), "5 10 0 0 0, 0");
+    make_text("properties A=>", "+", 65, "1;");
+    CHECK_SAME(value_numbers(read_value_of(text, 7)), "6 78 0 0 0, 0");
+}
+
+/* As many operators as there can be, and 64 signs. */
+static void long_sums_have_their_value(void)
+{
+    make_text("properties a=>0", "+1", 5458, ";");
+    CHECK(read_value_of(text, 0).value == 5458);
+    make_text("properties a=>9223372036854773079", "+1", 5458, ";");
+    CHECK_SAME(value_numbers(read_value_of(text, 0)), "10 5489 0 0 0, 0");
+    make_text("properties a=>", "-+", 32, "1;");
+    CHECK(read_value_of(text, 0).value == 1);
+}
+
+/* As many of the answer's five numbers are written as are lent. */
+static void values_keep_to_what_is_lent(void)
+{
+    static const size_t wanted[] = {0, 0, 8, 5, 13};
+    size_t lent, i;
+
+    for (lent = 0; lent <= 6; lent++) {
+        size_t answer[6] = {77, 77, 77, 77, 77, 77};
+
+        CHECK(gigboda_association_value("properties A => 1;", 18, tokens, 50, events, 50, 0, answer, lent) == 1);
+        for (i = 0; i < 6; i++)
+            CHECK(answer[i] == (i < lent && i < 5 ? wanted[i] : 77));
+    }
+}
+
+/* ---- Limits ---- */
 
 static void with_most_bytes_token_words_no_text_is_refused_3(void)
 {
@@ -790,6 +938,14 @@ static const struct {
     TEST(a_walk_meets_numbers),
     TEST(wrong_words_tell_no_number),
     TEST(parts_keep_to_what_is_lent),
+    TEST(constants_have_their_value),
+    TEST(values_keep_to_the_range),
+    TEST(what_is_no_constant_has_no_value),
+    TEST(associations_count_from_0),
+    TEST(values_leave_the_sections_words),
+    TEST(what_is_refused_1_to_8_is_not_refused_9),
+    TEST(long_sums_have_their_value),
+    TEST(values_keep_to_what_is_lent),
     TEST(with_most_bytes_token_words_no_text_is_refused_3),
     TEST(more_than_most_events_words_do_not_help),
     TEST(places_have_lines_and_columns),

@@ -25,6 +25,17 @@ extern "C" {
         answer: *mut usize,
         answer_len: usize,
     );
+    fn gigboda_association_value(
+        text: *const u8,
+        text_len: usize,
+        tokens: *mut u32,
+        tokens_len: usize,
+        events: *mut u32,
+        events_len: usize,
+        number: usize,
+        answer: *mut usize,
+        answer_len: usize,
+    ) -> i64;
     fn gigboda_tokenize(text: *const u8, text_len: usize, tokens: *mut u32, tokens_len: usize, answer: *mut usize, answer_len: usize);
     fn gigboda_token_text(
         text: *const u8,
@@ -86,6 +97,26 @@ pub fn tree(text: &[u8], tokens: &mut [u32], events: &mut [u32], records: &mut [
         )
     }
     answer
+}
+
+/// The value, and an answer's numbers.
+pub fn value(text: &[u8], tokens: &mut [u32], events: &mut [u32], number: usize) -> (i64, Answer) {
+    let mut answer = [0; 5];
+    // As above.
+    let value = unsafe {
+        gigboda_association_value(
+            text.as_ptr(),
+            text.len(),
+            tokens.as_mut_ptr(),
+            tokens.len(),
+            events.as_mut_ptr(),
+            events.len(),
+            number,
+            answer.as_mut_ptr(),
+            answer.len(),
+        )
+    };
+    (value, answer)
 }
 
 pub fn tokens(text: &[u8], tokens: &mut [u32]) -> Answer {

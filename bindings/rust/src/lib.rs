@@ -3,7 +3,8 @@
 //! that `rt staticlib capi` writes, where build.rs finds it; a Cargo.toml names it by its folder, `gigboda = { path = "bindings/rust" }`.
 //!
 //! A section's tree is gone through step by step with [`Section::nodes`]; a [`Tree`] has a record for each node, from which its parent, its
-//! children and its text are found without the events. [`number_parts`] tells base, digits and exponent of a number.
+//! children and its text are found without the events. [`number_parts`] tells base, digits and exponent of a number, and [`association_value`]
+//! computes sums and products.
 //!
 //! ```
 //! use gigboda::Node;
@@ -148,6 +149,26 @@ pub fn property_tree<'a>(
     refused(number, place)?;
     let section = Section { text, token_words: &tokens[..count], event_words: &events[..pushed], taken };
     Ok(Tree { section, record_words: &records[..Tree::RECORD * nodes] })
+}
+
+/// Reads a property section as [`property_section`] does, and computes the first value of the association with a number, from 0. The value is
+/// a constant: integers without a unit, with and without a base, signs, and `+`, `-` and `*`, of which `*` comes before the others; `(1)` is a
+/// list. Every literal, read without its sign, and every partial result must be an `i64`. Words that are not filled stay as they were. A
+/// refusal leaves all of them 0.
+///
+/// ```
+/// let (mut tokens, mut events) = ([7; 64], [7; 64]);
+/// let text = b"properties Validity => 365 * 24 + 16#C#; Grace => 30 days; Most => 9223372036854775807 + 1;";
+/// let mut value = |number| gigboda::association_value(text, &mut tokens, &mut events, number);
+/// assert_eq!(value(0), Ok(8_772));
+/// assert_eq!(value(1).unwrap_err().to_string(), "no whole number to compute (refusal 9 at byte 41)");
+/// assert_eq!(value(2).unwrap_err().to_string(), "a number is out of range (refusal 10 at byte 87)");
+/// assert_eq!(value(3).unwrap_err().place, text.len());
+/// ```
+pub fn association_value(text: &[u8], tokens: &mut [u32], events: &mut [u32], number: usize) -> Result<i64, Refused> {
+    let (value, [refusal, place, ..]) = calls::value(text, tokens, events, number);
+    refused(refusal, place)?;
+    Ok(value)
 }
 
 /// The text of a token by its number, from 0: a part of the text, or the empty part if there is no such word or the lengths up to it

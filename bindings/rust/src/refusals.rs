@@ -21,13 +21,18 @@ pub enum Refusal {
     NoRecord = 7,
     /// A string that is not closed; the place is its opening quote.
     UnclosedString = 8,
+    /// An association's first value is no constant; the place is the association's start. Or the text is not clean, or has no such
+    /// association; the place is the text's length.
+    NoValue = 9,
+    /// A literal or a partial result is no `i64`; the place is the literal or the operator.
+    OutOfRange = 10,
 }
 
 impl Refusal {
     /// All refusals, by number.
-    pub const ALL: [Refusal; 8] = {
+    pub const ALL: [Refusal; 10] = {
         use Refusal::*;
-        [TooLong, NotUtf8, NoTokenWord, NoProperties, NoEventWord, TooDeep, NoRecord, UnclosedString]
+        [TooLong, NotUtf8, NoTokenWord, NoProperties, NoEventWord, TooDeep, NoRecord, UnclosedString, NoValue, OutOfRange]
     };
 
     /// The refusal with a number, if there is one.
@@ -52,6 +57,8 @@ impl fmt::Display for Refusal {
             Refusal::TooDeep => "nested more than 64 deep",
             Refusal::NoRecord => "more nodes than the tool has room for",
             Refusal::UnclosedString => "a string is not closed",
+            Refusal::NoValue => "no whole number to compute",
+            Refusal::OutOfRange => "a number is out of range",
         })
     }
 }

@@ -1,5 +1,5 @@
 //! The tree of small texts, written with a bracket and the kind for each node, the text for each token, and a message's number; refusals,
-//! parts of numbers, places and limits.
+//! parts of numbers, values, places and limits.
 use super::*;
 
 fn shape(text: &str) -> String {
@@ -261,6 +261,113 @@ fn any_text_has_numbers() {
     assert_eq!(number_parts(longest.as_bytes(), &[integer + 65_535], 0).map(|n| n.inner), Some(0..65_535));
     let longer = longest + "1";
     assert!([0, 65_535].iter().all(|len| number_parts(longer.as_bytes(), &[integer + len], 0).is_none()));
+}
+
+/// The value of an association, or the refusal's number and place.
+fn valued(text: &str, number: usize) -> Result<i64, (usize, usize)> {
+    let (mut tokens, mut events) = (vec![7; MOST_BYTES], vec![7; MOST_EVENTS]);
+    association_value(text.as_bytes(), &mut tokens, &mut events, number).map_err(|r| (r.refusal.number(), r.place))
+}
+
+/// The same for a section's only association, which is at 11, its value at 16.
+fn computed(value: &str) -> Result<i64, (usize, usize)> {
+    valued(&format!("properties A => {value};"), 0)
+}
+
+#[test]
+fn constants_have_their_value() {
+    let examples = [
+        ("0", 0),
+        ("-0", 0),
+        ("007", 7),
+        ("1_000_", 1_000),
+        ("+ - 5", -5),
+        ("2 - 3 - 4", -5),
+        ("1 + 2 * 3", 7),
+        ("2 * 3 - 4 * 5", -14),
+        ("- - 1 * - + 2", -2),
+        ("1 -- 2\n + 3", 4),
+        ("16#F_F# + 2 * 3", 261),
+        ("0016#_f#", 15),
+        ("3#2_1_0#", 21),
+        ("9223372036854775807", i64::MAX),
+        ("16#7FFF_FFFF_FFFF_FFFF#", i64::MAX),
+        ("-9223372036854775807 - 1", i64::MIN),
+        ("4294967296 * -2147483648", i64::MIN),
+    ];
+    for (value, wanted) in examples {
+        assert_eq!(computed(value), Ok(wanted), "{value}");
+    }
+}
+
+/// A literal counts without its sign; then the left operand, the right one, the operator.
+#[test]
+fn values_keep_to_the_range() {
+    let examples = [
+        ("9223372036854775808", 16),
+        ("-9223372036854775808", 17),
+        ("16#8000_0000_0000_0000#", 16),
+        ("-9223372036854775807 - 2", 37),
+        ("9223372036854775807 + 1 - 1", 36),
+        ("3037000500 * 3037000500", 27),
+        ("9223372036854775807 + 9223372036854775808", 38),
+        ("9223372036854775808 * 0", 16),
+        ("9223372036854775807 * 2 + 9223372036854775808", 36),
+        ("1 + 3037000500 * 3037000500 - 9223372036854775808", 31),
+    ];
+    for (value, place) in examples {
+        assert_eq!(computed(value), Err((10, place)), "{value}");
+    }
+}
+
+#[test]
+fn what_is_no_constant_has_no_value() {
+    let based = ["16#F", "16#_#", "16##", "10#F#", "17#1#", "1#0#", "0#0#", "9223372036854775807 * 2 * 16#F"];
+    let others = ["1 ms", "4 / 2", "1 .. 2", "(1)", "-(1)", "1.0", "1e3", "a", "1 + a::b", "-a", "\"1\"", "true", "not 1", "[a => 1;]"];
+    for value in based.iter().chain(&others).chain(&["9223372036854775808 + 1 ms"]) {
+        assert_eq!(computed(value), Err((9, 11)), "{value}");
+    }
+}
+
+#[test]
+fn associations_count_from_0() {
+    let two = "properties A => 1 ms, 2; B :: C +=> constant 5 in modes (m), 6;";
+    assert_eq!([0, 1, 2, usize::MAX].map(|number| valued(two, number)), [Err((9, 11)), Ok(5), Err((9, 63)), Err((9, 63))]);
+    for text in ["properties none;", "properties A => 1; }", "properties A => 1; B => ; --", "properties A => 9223372036854775808"] {
+        assert_eq!(valued(text, 0), Err((9, text.len())), "{text}");
+    }
+}
+
+/// The section call's words are left; or zeros, where the other refusals come first.
+#[test]
+fn values_leave_the_sections_words() {
+    let call = |text: &[u8], t: usize, e: usize| {
+        let (mut tokens, mut events) = (vec![7; t], vec![7; e]);
+        let value = association_value(text, &mut tokens, &mut events, 0).map_err(|r| (r.refusal.number(), r.place));
+        assert!(value.is_ok() || tokens.iter().chain(&events).all(|word| *word == 0));
+        (value, tokens, events)
+    };
+    let text = b"properties A => 1 - 3;";
+    let (mut tokens, mut events) = (vec![7; 13], vec![7; 20]);
+    property_section(text, &mut tokens, &mut events).expect("not refused");
+    assert_eq!(call(text, 13, 20), (Ok(-2), tokens, events));
+    assert_eq!(call(&[b' '; MOST_BYTES + 1], 2, 2).0, Err((1, MOST_BYTES)));
+    assert_eq!(call(b"properties A => 1 ms; \xff", 30, 30).0, Err((2, 22)));
+    assert_eq!(call(b"properties A => 1 ms;", 9, 30).0, Err((3, 20)));
+    assert_eq!(call(b"A => 1 ms; \"", 30, 0).0, Err((8, 11)));
+    assert_eq!(call(b"A => 1 ms;", 30, 0).0, Err((4, 0)));
+    assert_eq!(call(b"properties A => 1 ms;", 30, 13).0, Err((5, 21)));
+    assert_eq!(call(format!("properties A => {}a;", "+".repeat(65)).as_bytes(), 100, 300).0, Err((6, 80)));
+    assert_eq!(call(b"properties A => 1 ms;", 30, 14).0, Err((9, 11)));
+    assert_eq!(call(b"properties A => 1 * 9223372036854775808;", 30, 30).0, Err((10, 20)));
+}
+
+/// As many operators as there can be, and 64 signs.
+#[test]
+fn long_sums_have_their_value() {
+    assert_eq!(computed(&format!("0{}", "+1".repeat(5_458))), Ok(5_458));
+    assert_eq!(computed(&format!("9223372036854773079{}", "+1".repeat(5_458))), Err((10, 5_491)));
+    assert_eq!(computed(&format!("{}1", "-+".repeat(32))), Ok(1));
 }
 
 /// The steps through an association with an empty node and no semicolon, with spaces around all.

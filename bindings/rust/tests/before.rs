@@ -2,7 +2,7 @@
 //! texts now, at the string's opening quote. A list that was filed for such a text is of this sort.
 mod files;
 
-use gigboda::{property_section, property_tree, tokenize, Refusal, Refused};
+use gigboda::{association_value, property_section, property_tree, tokenize, Refusal, Refused};
 
 /// An answer that is kept: the text, the lent words, and the token words.
 struct Kept {
@@ -85,6 +85,10 @@ fn what_was_read_before_is_refused_8_at_its_quote() {
         events.fill(7);
         assert_eq!(property_tree(&one.text, &mut tokens, &mut events, &mut records).err(), refused);
         assert!(tokens.iter().chain(&events).chain(&records).all(|word| *word == 0));
+        tokens.fill(7);
+        events.fill(7);
+        assert_eq!(association_value(&one.text, &mut tokens, &mut events, 0).err(), refused);
+        assert!(tokens.iter().chain(&events).all(|word| *word == 0));
     }
     let sections = all.iter().filter(|one| one.events.is_some()).count();
     assert_eq!((all.len(), sections), (246, 8));

@@ -1,14 +1,14 @@
 //! The C header against this crate: the same tables, the same steps through the trees of the kept sections and of made ones, what the trees'
-//! records say, the same parts of numbers, and the same lines and columns. The two walk in different ways: the header without memory, this crate
-//! with a list of the Starts that were used. cc builds bindings/c/tests/print.c.
+//! records say, the same parts of numbers, the same values, and the same lines and columns. The two walk in different ways: the header without
+//! memory, this crate with a list of the Starts that were used. cc builds bindings/c/tests/print.c.
 mod files;
 mod made;
 mod records;
 
 use gigboda::{
-    number_parts, position, property_section, property_tree, tokenize, Kind, Message, Node, Position, Refusal, Section, Step, Tree,
+    association_value, number_parts, position, property_section, property_tree, tokenize, Kind, Message, Node, Position, Refusal, Section, Step, Tree,
 };
-use records::{parts, records, Record, TREE};
+use records::{parts, records, Record, TREE, VALUE};
 use std::fmt::Write as _;
 use std::io::Write as _;
 use std::path::PathBuf;
@@ -130,6 +130,19 @@ fn number_lines(record: &Record) -> String {
     (0..filled.len()).filter_map(line).collect()
 }
 
+/// What the C program prints for the value of a record's association.
+fn value_line(record: &Record) -> String {
+    let number = if record.call == VALUE { record.own as usize } else { 0 };
+    let (mut tokens, mut events) = (vec![0; record.tokens as usize], vec![0; record.events as usize]);
+    match association_value(record.text, &mut tokens, &mut events, number) {
+        Ok(value) => {
+            let section = property_section(record.text, &mut tokens, &mut events).expect("not refused");
+            format!("0 0 {} {} {} {value}\n", section.token_words.len(), section.taken, section.event_words.len())
+        }
+        Err(refused) => format!("{} {} 0 0 0 0\n", refused.refusal.number(), refused.place),
+    }
+}
+
 /// A record of the section call.
 fn record_of(text: &[u8]) -> Vec<u8> {
     let numbers = [text.len() as u32, 2_000, 2_000];
@@ -161,6 +174,11 @@ fn the_same_trees() {
 #[test]
 fn the_same_numbers() {
     the_same_for_sections("print_numbers", "numbers", number_lines);
+}
+
+#[test]
+fn the_same_values() {
+    the_same_for_sections("print_values", "values", value_line);
 }
 
 /// Line and column of every place: of the sample whose listing is kept (columns.rs), of made texts, and of bytes that are no UTF-8.

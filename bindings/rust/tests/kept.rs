@@ -2,8 +2,8 @@
 mod files;
 mod records;
 
-use gigboda::{number_parts, property_section, property_tree, tokenize, Refused, Tree};
-use records::{parts, records, Record, PARTS, TREE};
+use gigboda::{association_value, number_parts, property_section, property_tree, tokenize, Refused, Section, Tree};
+use records::{parts, records, Record, PARTS, TREE, VALUE};
 use std::fmt::Display;
 
 /// What every lent word holds before a call.
@@ -14,16 +14,19 @@ fn line<N: Display>(name: &str, numbers: &[N]) -> String {
     format!("{name}{numbers}\n")
 }
 
-/// What a record's call fills: token words, tokens taken, event words, record words.
-fn called(record: &Record, tokens: &mut [u32], events: &mut [u32], words: &mut [u32]) -> Result<[usize; 4], Refused> {
-    if record.call == TREE {
-        let Tree { section, record_words } = property_tree(record.text, tokens, events, words)?;
-        Ok([section.token_words.len(), section.taken, section.event_words.len(), record_words.len()])
-    } else if record.is_section() {
-        let section = property_section(record.text, tokens, events)?;
-        Ok([section.token_words.len(), section.taken, section.event_words.len(), 0])
-    } else {
-        Ok([tokenize(record.text, tokens)?.len(), 0, 0, 0])
+/// What a record's call fills, token words, tokens taken and event words; and how many records, or which value. The value call does not say what it
+/// fills: that is told by the section call.
+fn called(record: &Record, tokens: &mut [u32], events: &mut [u32], words: &mut [u32]) -> Result<([usize; 3], i64), Refused> {
+    let filled = |section: Section| [section.token_words.len(), section.taken, section.event_words.len()];
+    match record.call {
+        TREE => property_tree(record.text, tokens, events, words).map(|tree| (filled(tree.section), tree.len() as i64)),
+        VALUE => {
+            let value = association_value(record.text, tokens, events, record.own as usize)?;
+            let (mut tokens, mut events) = (tokens.to_vec(), events.to_vec());
+            property_section(record.text, &mut tokens, &mut events).map(|section| (filled(section), value))
+        }
+        _ if record.is_section() => property_section(record.text, tokens, events).map(|section| (filled(section), 0)),
+        _ => tokenize(record.text, tokens).map(|tokens| ([tokens.len(), 0, 0], 0)),
     }
 }
 
@@ -38,16 +41,21 @@ fn parts_line(record: &Record) -> String {
 fn answer_lines(record: &Record) -> String {
     let mut tokens = vec![OLD; record.tokens as usize];
     let mut events = vec![OLD; if record.is_section() { record.events as usize } else { 0 }];
-    let mut words = vec![OLD; record.own as usize];
+    let mut words = vec![OLD; if record.call == TREE { record.own as usize } else { 0 }];
     let answer = called(record, &mut tokens, &mut events, &mut words);
-    let [t, taken, e, r] = answer.unwrap_or([0; 4]);
+    let ([t, taken, e], own) = answer.unwrap_or_default();
     let (number, place, left) = answer.map_or_else(|r| (r.refusal.number(), r.place, 0), |_| (0, 0, OLD));
     let rest = |words: &[u32], filled: usize| words[filled..].iter().filter(|w| **w == left).count();
-    let numbers = [number, place, t, taken, e, r / Tree::RECORD];
+    let five = [number, place, t, taken, e].map(|n| n as i64);
+    let six = [&five[..], &[own]].concat();
     let section = line("tokens", &tokens[..t]) + &line("events", &events[..e]) + &line("rest", &[rest(&tokens, t), rest(&events, e)]);
     match record.call {
-        TREE => line("answer", &numbers) + &section + &line("more", &words[..r]) + &line("left", &[rest(&words, r)]),
-        _ => line("answer", &numbers[..5]) + &section,
+        TREE => {
+            let r = Tree::RECORD * own as usize;
+            line("answer", &six) + &section + &line("more", &words[..r]) + &line("left", &[rest(&words, r)])
+        }
+        VALUE => line("answer", &six) + &section,
+        _ => line("answer", &five) + &section,
     }
 }
 

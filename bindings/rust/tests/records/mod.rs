@@ -5,10 +5,11 @@ use gigboda::Number;
 /// What stands in a record for the tokens-only call, before a record that says which call it asks for, and for the largest settings.
 pub const NONE: u32 = u32::MAX;
 
-/// The calls that a record names: the section call or the tokens-only call, the tree call, and the parts of a number.
+/// The calls that a record names: the section call or the tokens-only call, the tree call, the parts of a number, and the value call.
 pub const PLAIN: u32 = 0;
 pub const TREE: u32 = 1;
 pub const PARTS: u32 = 5;
+pub const VALUE: u32 = 6;
 
 pub struct Record<'a> {
     pub call: u32,
@@ -16,7 +17,8 @@ pub struct Record<'a> {
     pub tokens: u32,
     /// How many event words are lent, or `NONE` for the tokens-only call.
     pub events: u32,
-    /// The call's own number: how many record words are lent to the tree call, or the number of the token whose parts are asked for.
+    /// The call's own number: how many record words are lent to the tree call, or the number of the token whose parts are asked for, or of the
+    /// association whose value is.
     pub own: u32,
 }
 
@@ -53,7 +55,7 @@ fn next(bytes: &[u8]) -> (Record<'_>, &[u8]) {
     let (length, call, tokens, events, own, rest) = match number(bytes) {
         (NONE, rest) => {
             let ([call, settings, length, tokens, events, own], rest) = numbers(rest);
-            assert!([PLAIN, TREE, PARTS].contains(&call) && settings == NONE, "a call that is not known, or settings");
+            assert!([PLAIN, TREE, PARTS, VALUE].contains(&call) && settings == NONE, "a call that is not known, or settings");
             (length, call, tokens, events, own, rest)
         }
         (length, rest) => {
