@@ -1,9 +1,12 @@
-//! The safe functions of bindings/rust, the tree and its records against the given Rust, on texts of all families (tools/bindings-test runs
-//! it).
-use gigboda::{number_parts, property_section, property_tree, tokenize, Event, Kind, Message, Node, Number, Refusal, Refused, Section};
+//! The safe functions of bindings/rust, the tree, its records and values against the given Rust, on texts of all families (tools/bindings-test
+//! runs it).
+use gigboda::{
+    association_value, number_parts, property_section, property_tree, tokenize, Event, Kind, Message, Node, Number, Refusal, Refused, Section,
+};
+use oracle::tree::leaves;
+use oracle::values::value;
 use spar::event::Event as Theirs;
 use spar::syntax_kind::SyntaxKind;
-use std::ops::Range;
 use texts::families::{self, Family, Maker};
 use texts::random::Rng;
 use texts::strings;
@@ -205,6 +208,13 @@ fn same_tokens(text: &str) -> Option<usize> {
     Some(same_numbers(text, ours, &theirs))
 }
 
+/// The Rust's events.
+fn their_events(text: &str, tokens: &[(SyntaxKind, usize)]) -> Vec<Theirs> {
+    let mut parser = spar::parser::Parser::new(tokens, text);
+    parser.run_property_section();
+    parser.finish()
+}
+
 /// Compares the events, the tree and its records with the Rust's. False for a text that is refused where the Rust has no limit.
 fn same_section(text: &str) -> bool {
     let (mut tokens, mut events) = (vec![0; text.len()], vec![0; gigboda::MOST_EVENTS]);
@@ -218,22 +228,40 @@ fn same_section(text: &str) -> bool {
         }
     };
     assert_eq!(unclosed(text, &all), None, "{text:?}");
-    let mut parser = spar::parser::Parser::new(&all, text);
-    parser.run_property_section();
-    let theirs = parser.finish();
+    let theirs = their_events(text, &all);
     assert_eq!(section.events().count(), theirs.len(), "{text:?}");
     assert!(section.events().zip(&theirs).all(|(o, t)| same_event(o, t)), "{text:?}");
-    let mut at = 0;
-    let parts = all.iter().map(|(kind, len)| {
-        at += len;
-        (kind.is_trivia(), at - len..at)
-    });
-    let leaves: Vec<Range<usize>> = parts.filter(|p| !p.0).map(|p| p.1).collect();
+    let leaves = leaves(&all);
     let theirs = their_tree(theirs, leaves.iter().map(|range| text[range.clone()].to_string()));
     assert_eq!(our_tree(&section, text), theirs, "{text:?}");
     let starts: Vec<usize> = leaves.iter().map(|range| range.start).collect();
     same_records(&section, &theirs, &starts);
     true
+}
+
+/// Compares the value of each association of a text, and of the first behind them, with what the oracle computes from the Rust's events; how many are
+/// numbers. A value leaves the section call's words, and a refusal leaves zeros. None for a text that the section call refuses.
+fn same_values(text: &str) -> Option<usize> {
+    let (mut tokens, mut events) = (vec![7; text.len()], vec![7; gigboda::MOST_EVENTS]);
+    let section = property_section(text.as_bytes(), &mut tokens, &mut events).ok()?;
+    let words = [section.token_words, section.event_words].concat();
+    let all = spar::lexer::tokenize(text);
+    let (theirs, leaves) = (their_events(text, &all), leaves(&all));
+    let mut computed = 0;
+    for number in 0..=associations(&section) {
+        let (mut tokens, mut events) = (vec![7; section.token_words.len()], vec![7; section.event_words.len()]);
+        let ours = association_value(text.as_bytes(), &mut tokens, &mut events, number);
+        let wanted = value(text, &theirs, &leaves, number);
+        assert_eq!(ours.map_err(|r| (r.refusal.number() as u32, r.place)), wanted, "association {number} of {text:?}");
+        let left = if wanted.is_ok() { &words } else { &vec![0; words.len()] };
+        assert!([tokens, events].concat() == *left, "association {number} of {text:?}");
+        computed += usize::from(wanted.is_ok());
+    }
+    Some(computed)
+}
+
+fn associations(section: &Section) -> usize {
+    section.nodes().filter(|step| step.node == Node::Enter(Kind::PROPERTY_ASSOCIATION)).count()
 }
 
 /// Texts of all families in turn, those that are UTF-8 and not too long.
@@ -287,5 +315,16 @@ fn events_and_trees_are_the_rusts() {
         let read = texts.iter().filter(|text| same_section(text)).count();
         assert!(read > 20_000, "only {read} of {} texts were read", texts.len());
         println!("{read} of {} texts read to the same events, trees and records, the others refused", texts.len());
+    });
+}
+
+#[test]
+fn values_are_what_the_rusts_trees_say() {
+    with_stack(|| {
+        let texts = texts_of(families::values(), 9);
+        let of_each: Vec<usize> = texts.iter().filter_map(|text| same_values(text)).collect();
+        let (read, numbers) = (of_each.len(), of_each.iter().sum::<usize>());
+        assert!(read > 20_000 && numbers > 1_000, "only {read} of {} texts were read, with {numbers} values", texts.len());
+        println!("{numbers} values, and 9 or 10 for all other associations, as the Rust's trees say, in {read} of {} texts", texts.len());
     });
 }

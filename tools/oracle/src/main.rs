@@ -1,11 +1,10 @@
 //! The oracle: for each record of standard input the lines that 01 asks for, from the given Rust. The Rust has no limits, no refusals,
 //! no tree call, no parts of numbers and no values; this program puts them around it. tools/README.md says what a record is and what is written for one.
-mod parts;
 mod records;
-mod tree;
-mod values;
 
-use parts::parts;
+use oracle::parts::parts;
+use oracle::tree::{leaves, nodes, steps, Node};
+use oracle::values::value;
 use records::{next, write_record, write_words, Call, Next, Reading, Record, Refusal, RECORD};
 use spar::event::Event;
 use spar::lexer::tokenize;
@@ -15,8 +14,6 @@ use std::collections::HashMap;
 use std::io::{self, BufReader, BufWriter, Write};
 use std::ops::Range;
 use texts::strings::unclosed;
-use tree::{nodes, steps, Node};
-use values::{associations, Fault};
 
 /// 01's limits.
 const MOST_BYTES: usize = 32_768;
@@ -133,20 +130,6 @@ fn tokens(record: &Record) -> Result<(&str, Vec<Token>), Refusal> {
     Ok((text, tokens))
 }
 
-/// Where the non-trivia tokens stand, then the text's end.
-fn leaves(tokens: &[Token]) -> Vec<Range<usize>> {
-    let mut leaves = Vec::new();
-    let mut at = 0;
-    for (kind, len) in tokens {
-        if !kind.is_trivia() {
-            leaves.push(at..at + len);
-        }
-        at += len;
-    }
-    leaves.push(at..at);
-    leaves
-}
-
 /// A section that is read: where its text's non-trivia tokens stand, then the text's end; how many of them it takes; its events.
 struct Section {
     leaves: Vec<Range<usize>>,
@@ -169,10 +152,6 @@ fn section(text: &str, tokens: &[Token], lent: usize) -> Result<Section, Refusal
 }
 
 impl Section {
-    fn is_clean(&self) -> bool {
-        self.taken + 1 == self.leaves.len() && !self.events.iter().any(|event| matches!(event, Event::Error { .. }))
-    }
-
     /// The records of all nodes, or refusal 7.
     fn records(&self, words: usize) -> Result<Vec<u32>, Refusal> {
         let nodes = nodes(&steps(self.events.clone()));
@@ -184,15 +163,7 @@ impl Section {
 
     /// The value of the association with a number, or one of the refusals 9 and 10.
     fn value(&self, text: &str, number: usize) -> Result<i64, Refusal> {
-        if !self.is_clean() {
-            return Err(Refusal(9, text.len()));
-        }
-        match associations(text, &steps(self.events.clone()), &self.leaves).get(number) {
-            None => Err(Refusal(9, text.len())),
-            Some((start, Err(Fault::NoConstant))) => Err(Refusal(9, *start)),
-            Some((_, Err(Fault::OutOfRange(place)))) => Err(Refusal(10, *place)),
-            Some((_, Ok(value))) => Ok(*value),
-        }
+        value(text, &self.events, &self.leaves, number).map_err(|(number, place)| Refusal(number, place))
     }
 }
 

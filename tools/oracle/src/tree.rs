@@ -1,6 +1,7 @@
-//! The tree that the Rust's events spell, by 01's tree rule: the steps through it, and its nodes.
+//! The tree that the Rust's events spell, by 01's tree rule: the steps through it, its nodes, and where its tokens stand.
 use spar::event::Event;
 use spar::syntax_kind::SyntaxKind;
+use std::ops::Range;
 
 /// A step through the tree: into a node of a kind, over the next non-trivia token, or out of the innermost node.
 pub enum Step {
@@ -70,4 +71,18 @@ pub fn nodes(steps: &[Step]) -> Vec<Node> {
         }
     }
     nodes
+}
+
+/// Where the non-trivia tokens stand, then the text's end.
+pub fn leaves(tokens: &[(SyntaxKind, usize)]) -> Vec<Range<usize>> {
+    let mut leaves = Vec::new();
+    let mut at = 0;
+    for (kind, len) in tokens {
+        if !kind.is_trivia() {
+            leaves.push(at..at + len);
+        }
+        at += len;
+    }
+    leaves.push(at..at);
+    leaves
 }

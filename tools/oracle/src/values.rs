@@ -1,13 +1,14 @@
 //! The whole number that an association's first value is, as 02's request Six has it: from the steps through the Rust's tree and the texts of
 //! its tokens. Each node is computed when the step leaves it, so that no recursion is needed.
 use crate::parts::{literal, Parts};
-use crate::tree::Step;
+use crate::tree::{steps, Step};
+use spar::event::Event;
 use spar::syntax_kind::SyntaxKind;
 use std::ops::Range;
 
 /// Why there is no number: the value is no constant, or a literal or a partial result is out of range, with the place of its token.
 #[derive(Clone, Copy)]
-pub enum Fault {
+enum Fault {
     NoConstant,
     OutOfRange(usize),
 }
@@ -70,7 +71,7 @@ fn binary(left: Value, operator: &Token, right: Value) -> Value {
     }
 }
 
-fn value(kind: SyntaxKind, children: &[Child]) -> Value {
+fn node(kind: SyntaxKind, children: &[Child]) -> Value {
     match (kind, children) {
         (SyntaxKind::INTEGER_VALUE, [Child::Token(token)]) => integer(token),
         (SyntaxKind::PROPERTY_EXPRESSION, [Child::Token(sign), Child::Node(operand)]) => signed(sign, *operand),
@@ -85,8 +86,8 @@ fn first_value(children: &[Child]) -> Value {
     nodes.nth(1).unwrap_or(Err(Fault::NoConstant))
 }
 
-/// For each association, in order, where its first token starts, and its first value. `leaves` are the non-trivia tokens' places, then the text's end.
-pub fn associations(text: &str, steps: &[Step], leaves: &[Range<usize>]) -> Vec<(usize, Value)> {
+/// For each association, in order, where its first token starts, and its first value.
+fn associations(text: &str, steps: &[Step], leaves: &[Range<usize>]) -> Vec<(usize, Value)> {
     let mut found = Vec::new();
     let mut open = Vec::new();
     let mut inside: Vec<Child> = Vec::new();
@@ -105,9 +106,29 @@ pub fn associations(text: &str, steps: &[Step], leaves: &[Range<usize>]) -> Vec<
                 if kind == SyntaxKind::PROPERTY_ASSOCIATION {
                     found.push((start, first_value(&children)));
                 }
-                inside.push(Child::Node(value(kind, &children)));
+                inside.push(Child::Node(node(kind, &children)));
             }
         }
     }
     found
+}
+
+/// Whether there is no Error and every non-trivia token is taken.
+fn is_clean(events: &[Event], leaves: &[Range<usize>]) -> bool {
+    let taken = events.iter().filter(|event| matches!(event, Event::Token { .. })).count();
+    taken + 1 == leaves.len() && !events.iter().any(|event| matches!(event, Event::Error { .. }))
+}
+
+/// The value of the association with a number in a text of some events, or number and place of one of the refusals 9 and 10. `leaves` are the non-trivia
+/// tokens' places, then the text's end.
+pub fn value(text: &str, events: &[Event], leaves: &[Range<usize>], number: usize) -> Result<i64, (u32, usize)> {
+    if !is_clean(events, leaves) {
+        return Err((9, text.len()));
+    }
+    match associations(text, &steps(events.to_vec()), leaves).get(number) {
+        None => Err((9, text.len())),
+        Some((start, Err(Fault::NoConstant))) => Err((9, *start)),
+        Some((_, Err(Fault::OutOfRange(place)))) => Err((10, *place)),
+        Some((_, Ok(value))) => Ok(*value),
+    }
 }
