@@ -137,6 +137,11 @@ parts() {
     extended 5 $none "$@"
 }
 
+# A record of the value call: `text`, lent token words, lent event words, the association's number.
+value() {
+    extended 6 $none "$@"
+}
+
 # The listing of `text` by 01's rule, from its bytes and the words of the answer to a record: columns go from character to character, each as
 # long as its first byte says.
 listing() {

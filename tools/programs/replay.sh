@@ -1,4 +1,4 @@
-# How tools/programs-test tests `replay`: bad and large records, parts of numbers, and what can't be read or written.
+# How tools/programs-test tests `replay`: bad and large records, parts of numbers, values, and what can't be read or written.
 
 # What a line `parts` has for a token that is no number.
 no_parts="0 0 0 0 0 0 0 0"
@@ -51,12 +51,12 @@ bad_extended() {
     tree 1 40001 1 > "$to/many-events"
     tree 1 1 160001 > "$to/many-records"
     tree 1 1 $none > "$to/most-records"
-    for call in 2 4 6 $none; do extended $call $none 1 3 4 > "$to/call-$call"; done
+    for call in 2 4 7 $none; do extended $call $none 1 3 4 > "$to/call-$call"; done
     for settings in 0 9; do extended 1 $settings 1 3 4 > "$to/settings-$settings"; done
     extended 0 0 1 3 0 > "$to/section-settings"
     extended 0 $none 1 3 4 > "$to/section-own"
     extended 0 $none 1 $none 4 > "$to/tokens-own"
-    all_bad long-text many-tokens many-events many-records most-records call-2 call-4 call-6 call-$none settings-0 settings-9 section-settings section-own tokens-own
+    all_bad long-text many-tokens many-events many-records most-records call-2 call-4 call-7 call-$none settings-0 settings-9 section-settings section-own tokens-own
     tree 1 3 4 > "$to/good"
     printf '%s\n' "answer 0 0 1 1 3 1" "tokens 3932170" "events 11075584 20709377 33554432" "rest 0 0" "more 169 0 0 1" "left 0" > "$to/want"
     cut_short 4 11 12 13 27 28 37
@@ -74,6 +74,23 @@ bad_parts() {
     parts 1 $none 0 > "$to/good"
     echo "parts 30 6 0 2 3 5 1 0" > "$to/want"
     cut_short 12 27 28 33
+}
+
+# The same for the value call, whose own number has no limit either.
+bad_values() {
+    many 40001 x > "$text"
+    value 1 1 0 > "$to/value-long-text"
+    printf properties > "$text"
+    value 40001 1 0 > "$to/value-many-tokens"
+    value 1 40001 0 > "$to/value-many-events"
+    extended 6 0 1 3 0 > "$to/value-settings"
+    all_bad value-long-text value-many-tokens value-many-events value-settings
+    printf 'properties a=>-7;' > "$text"
+    value 8 17 0 > "$to/good"
+    printf '%s\n' "answer 0 0 7 6 16 -7" "tokens 3932170 196609 2162689 1179650 1376257 1966081 327681" \
+        "events 11075584 20709377 11141120 11206656 18939905 33554432 17956865 11862016 18153473 11993088 18743297 33554432 33554432 17104897 33554432 33554432" \
+        "rest 1 1" > "$to/want"
+    cut_short 4 12 27 28 44
 }
 
 # The section call and the tokens-only call in both forms; the tree call with no event words, and with fewer record words than a record has and more.
@@ -159,6 +176,99 @@ large_numbers() {
     tells_parts "32,768 tokens" 40000 $none "$no_parts" 32766 32768
 }
 
+# With so many token and event words lent for `text`, the value call for an association must give what is known of its answer, the number, the place and the
+# value; and all of it as the reference has it.
+gives_value() {
+    value $2 $3 $4 > "$input"
+    "$reference" < "$input" > "$to/want"
+    gives "value, $1, $2 token words, $3 event words, association $4" "$replay" < "$input"
+    prints "value, $1, number, place and value" "$5" sh -c '"$0" | awk "\$1 == \"answer\" { print \$2, \$3, \$7 }"' "$replay" < "$input"
+}
+
+# A constant of each form, at the ends of the range and beyond, and what is no constant.
+value_forms() {
+    while IFS='|' read -r value known; do
+        printf 'properties A => %s;' "$value" > "$text"
+        gives_value "$value" 40000 40000 0 "$known"
+    done << 'END'
+0|0 0 0
+-0|0 0 0
+1_000_|0 0 1000
+- - 1 * - + 2|0 0 -2
+1 + 2 * 3 - 4|0 0 3
+16#F_F# + 2 * 3|0 0 261
+0016#_f#|0 0 15
+9223372036854775807|0 0 9223372036854775807
+-9223372036854775807 - 1|0 0 -9223372036854775808
+9223372036854775808|10 16 0
+-9223372036854775808|10 17 0
+16#8000_0000_0000_0000#|10 16 0
+-9223372036854775807 - 2|10 37 0
+3037000500 * 3037000500|10 27 0
+9223372036854775807 + 9223372036854775808|10 38 0
+9223372036854775807 * 2 - 9223372036854775808|10 36 0
+16#F|9 11 0
+16#_#|9 11 0
+10#F#|9 11 0
+17#1#|9 11 0
+1#0#|9 11 0
+1 ms|9 11 0
+4 / 2|9 11 0
+1 .. 2|9 11 0
+(1)|9 11 0
+1.0|9 11 0
+a|9 11 0
+9223372036854775808 + 1 ms|9 11 0
+END
+}
+
+# Which association, and which refusal comes first; where the text is not clean or has no such association, 9 is at its length.
+values_in_texts() {
+    printf 'properties A => 1 ms, 2; B :: C +=> constant 5 in modes (m), 6;' > "$text"
+    while read -r tokens events association known; do
+        gives_value "two associations" $tokens $events $association "$known"
+    done << END
+40000 40000 0 9 11 0
+40000 40000 1 0 0 5
+40000 40000 2 9 63 0
+40000 40000 $none 9 63 0
+37 42 1 0 0 5
+36 42 1 3 62 0
+37 41 1 5 63 0
+37 $none 1 5 0 0
+END
+    while IFS='|' read -r format known; do
+        printf "$format" > "$text"
+        gives_value "'$format'" 40000 40000 0 "$known"
+    done << 'END'
+properties none;|9 16 0
+properties A => 1; }|9 20 0
+properties A => 1; B => ;|9 25 0
+properties A => 9223372036854775808|9 35 0
+properties A => 1; \303|2 19 0
+properties A => 1; "|8 19 0
+A => 1;|4 0 0
+END
+    { printf 'properties A => '; many 65 +; printf '1;'; } > "$text"
+    gives_value "65 signs" 40000 40000 0 "6 80 0"
+}
+
+# As many operators as there can be, one more, and too many bytes; a literal of as many digits as there can be, with its value in the last.
+large_values() {
+    { printf 'properties a=>0'; many 5459 +1; printf ';'; } > "$text"
+    gives_value "5,459 operators" 40000 40000 0 "0 0 5459"
+    { printf 'properties a=>0'; many 5460 +1; printf ';'; } > "$text"
+    gives_value "5,460 operators" 40000 40000 0 "5 10935 0"
+    { printf 'properties a=>9223372036854773079'; many 5459 +1; printf ';'; } > "$text"
+    gives_value "5,459 operators, out of range on the way" 40000 40000 0 "10 5489 0"
+    { printf 'properties a=>'; many 32752 0; printf '1;'; } > "$text"
+    gives_value "32,753 digits" 40000 40000 0 "0 0 1"
+    { printf 'properties a=>1'; many 32752 0; printf ';'; } > "$text"
+    gives_value "32,753 digits, out of range" 40000 40000 0 "10 14 0"
+    printf ' ' >> "$text"
+    gives_value "32,769 bytes" 40000 40000 0 "1 32768 0"
+}
+
 # 40,000 bytes, nearly as many tokens, as many events as there may be and one more, their nodes, and many such records.
 large_records() {
     many 40000 ' ' > "$text"
@@ -185,10 +295,14 @@ test_replay() {
     bad_records
     bad_extended
     bad_parts
+    bad_values
     forms
     number_forms
     numbers_in_texts
     large_numbers
+    value_forms
+    values_in_texts
+    large_values
     large_records
     copies 3 "$kept/stdin" > "$input"
     copies 3 "$kept/stdout" > "$to/want"

@@ -498,12 +498,14 @@ static void what_is_refused_1_to_8_is_not_refused_9(void)
     CHECK_SAME(value_numbers(read_value_of(text, 7)), "6 78 0 0 0, 0");
 }
 
-/* As many operators as there can be, and 64 signs. */
+/* As many operators as there can be, one more, and 64 signs. */
 static void long_sums_have_their_value(void)
 {
-    make_text("properties a=>0", "+1", 5458, ";");
-    CHECK(read_value_of(text, 0).value == 5458);
-    make_text("properties a=>9223372036854773079", "+1", 5458, ";");
+    make_text("properties a=>0", "+1", 5459, ";");
+    CHECK(read_value_of(text, 0).value == 5459);
+    make_text("properties a=>0", "+1", 5460, ";");
+    CHECK(read_value_of(text, 0).answer.number == GIGBODA_REFUSAL_NO_EVENT_WORD);
+    make_text("properties a=>9223372036854773079", "+1", 5459, ";");
     CHECK_SAME(value_numbers(read_value_of(text, 0)), "10 5489 0 0 0, 0");
     make_text("properties a=>", "-+", 32, "1;");
     CHECK(read_value_of(text, 0).value == 1);

@@ -362,11 +362,12 @@ fn values_leave_the_sections_words() {
     assert_eq!(call(b"properties A => 1 * 9223372036854775808;", 30, 30).0, Err((10, 20)));
 }
 
-/// As many operators as there can be, and 64 signs.
+/// As many operators as there can be, one more, and 64 signs.
 #[test]
 fn long_sums_have_their_value() {
-    assert_eq!(computed(&format!("0{}", "+1".repeat(5_458))), Ok(5_458));
-    assert_eq!(computed(&format!("9223372036854773079{}", "+1".repeat(5_458))), Err((10, 5_491)));
+    assert_eq!(computed(&format!("0{}", "+1".repeat(5_459))), Ok(5_459));
+    assert_eq!(computed(&format!("0{}", "+1".repeat(5_460))), Err((5, 10_937)));
+    assert_eq!(computed(&format!("9223372036854773079{}", "+1".repeat(5_459))), Err((10, 5_491)));
     assert_eq!(computed(&format!("{}1", "-+".repeat(32))), Ok(1));
 }
 
