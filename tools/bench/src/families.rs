@@ -29,9 +29,18 @@ fn filled(bytes: usize, head: &str, mut piece: impl FnMut(usize) -> String, tail
     text + tail
 }
 
-fn realistic(bytes: usize) -> String {
+fn realistic_between(bytes: usize, head: &str, tail: &str) -> String {
     let lines: Vec<&str> = REALISTIC.split_inclusive('\n').skip(1).collect();
-    filled(bytes, "properties\n", |n| lines[n % lines.len()].to_string(), "")
+    filled(bytes, head, |n| lines[n % lines.len()].to_string(), tail)
+}
+
+fn realistic(bytes: usize) -> String {
+    realistic_between(bytes, "properties\n", "")
+}
+
+/// The first and the last association have a value.
+fn realistic_with_values(bytes: usize) -> String {
+    realistic_between(bytes, "properties\n  Valid_From => 2 * 365 + 1;\n", "  Valid_Until => 10 * 365 + 2;\n")
 }
 
 /// Like the realistic ones, but without a line that stands there twice: what a processor learns of a text helps it less here.
@@ -112,9 +121,23 @@ fn marks(bytes: usize) -> String {
     filled(bytes, "properties\n", |n| values[n % values.len()].to_string(), "")
 }
 
-/// Every family at every size, the realistic ones first.
+/// A family: its name, whether it is read clean, and its text of up to so many bytes.
+type Family = (&'static str, bool, fn(usize) -> String);
+
+/// Families at every size.
+fn at_sizes(families: &[Family]) -> Vec<Text> {
+    let of_family = |(family, clean, make): &Family| SIZES.map(|bytes| Text { family, clean: *clean, bytes, text: make(bytes) });
+    families.iter().flat_map(of_family).collect()
+}
+
+/// The texts of the value call.
+pub fn values() -> Vec<Text> {
+    at_sizes(&[("realistic with values", true, realistic_with_values), ("sums in a chain", true, sums)])
+}
+
+/// All others, the realistic ones first.
 pub fn all() -> Vec<Text> {
-    let families: [(&'static str, bool, fn(usize) -> String); 14] = [
+    at_sizes(&[
         ("realistic", true, realistic),
         ("varied", true, varied),
         ("identifiers", false, identifiers),
@@ -129,12 +152,5 @@ pub fn all() -> Vec<Text> {
         ("64 openers over and over", true, openers),
         ("products in a chain", false, products),
         ("sums in a chain", true, sums),
-    ];
-    let mut texts = Vec::new();
-    for (family, clean, make) in families {
-        for bytes in SIZES {
-            texts.push(Text { family, clean, bytes, text: make(bytes) });
-        }
-    }
-    texts
+    ])
 }

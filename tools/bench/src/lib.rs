@@ -1,5 +1,5 @@
-//! Measures the proved calls and the given Rust on the same texts: tokens alone, and whole sections; and the tree call beside the section
-//! call. There is a program for each of four places at which the code can stand in its lines of 64 bytes; `bench` runs them and prints the
+//! Measures the proved calls and the given Rust on the same texts: tokens alone, and whole sections; and the tree call and the value call beside
+//! the section call. There is a program for each of four places at which the code can stand in its lines of 64 bytes; `bench` runs them and prints the
 //! table.
 pub mod families;
 pub mod measure;
@@ -21,7 +21,7 @@ macro_rules! moved_by {
         );
 
         fn main() {
-            bench::place::print_measured(&bench::families::all())
+            bench::place::print_measured(&bench::families::all(), &bench::families::values())
         }
     };
 }

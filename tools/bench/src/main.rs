@@ -51,5 +51,6 @@ fn main() {
     table::print_flatness(&rows);
     table::print_spread(&rows);
     table::print_tree(&rows);
+    table::print_values(&families::values(), &places);
     println!("{}", table::lowest(&rows));
 }

@@ -1,7 +1,8 @@
-//! What is measured with the code at one place, and its form between two programs: a line with the places, then one for each text.
+//! What is measured with the code at one place, and its form between two programs: a line with the places, then one for each text; behind an empty line
+//! one for each text of the value call.
 use crate::families::Text;
 use crate::measure::{quartiles, Job, Quartiles};
-use gigboda::{property_section, property_tree, tokenize, Node, Tree};
+use gigboda::{association_value, property_section, property_tree, tokenize, Kind, Node, Tree};
 use spar::parser::Parser;
 use std::hint::black_box;
 use std::str::FromStr;
@@ -15,14 +16,19 @@ pub const LINE: usize = 64;
 /// How many jobs a text has: our tokens, the Rust's, our section, the Rust's, our tree, and a pass that only checks UTF-8.
 const JOBS: usize = 6;
 
+/// How many jobs a text of the value call has: our section, the value of its first association, and that of its last.
+const VALUE_JOBS: usize = 3;
+
 /// Their times, in nanoseconds per byte of a text.
 pub type Times = [Quartiles; JOBS];
+pub type ValueTimes = [Quartiles; VALUE_JOBS];
 
-/// What one program measures: where in their lines our call and the Rust's stand, and the times of each text.
+/// What one program measures: where in their lines our call and the Rust's stand, and the times of each text, and of each of the value call.
 pub struct Measured {
     pub ours: usize,
     pub rust: usize,
     pub times: Vec<Times>,
+    pub values: Vec<ValueTimes>,
 }
 
 /// The words that are lent to one of our calls, made once for each text.
@@ -55,6 +61,10 @@ fn our_tree(text: &str, lent: &mut Lent) -> (usize, usize, usize) {
     (tree.section.token_words.len(), tree.section.event_words.len(), tree.len())
 }
 
+fn our_value(text: &str, lent: &mut Lent, number: usize) -> i64 {
+    association_value(text.as_bytes(), &mut lent.tokens, &mut lent.events, number).expect("not refused")
+}
+
 fn rust_section(text: &str) -> (usize, usize) {
     let tokens = spar::lexer::tokenize(text);
     let mut parser = Parser::new(&tokens, text);
@@ -78,7 +88,8 @@ fn check(text: &Text, lent: &mut Lent) {
 }
 
 /// The jobs of a text.
-fn jobs<'a>(source: &'a str, [only, section, tree]: &'a mut [Lent; 3]) -> [Job<'a>; JOBS] {
+fn jobs<'a>(text: &'a Text, [only, section, tree]: &'a mut [Lent; 3]) -> [Job<'a>; JOBS] {
+    let source = text.text.as_str();
     [
         Job::new(move || our_tokens(black_box(source), &mut only.tokens)),
         Job::new(move || spar::lexer::tokenize(black_box(source))),
@@ -89,13 +100,25 @@ fn jobs<'a>(source: &'a str, [only, section, tree]: &'a mut [Lent; 3]) -> [Job<'
     ]
 }
 
-/// The times of all texts, measured in the same rounds.
-fn times(texts: &[Text]) -> Vec<Times> {
+/// The jobs of a text of the value call.
+fn value_jobs<'a>(text: &'a Text, [section, first, last]: &'a mut [Lent; 3]) -> [Job<'a>; VALUE_JOBS] {
+    let source = text.text.as_str();
+    let read = property_section(source.as_bytes(), &mut section.tokens, &mut section.events).expect("not refused");
+    let associations = read.nodes().filter(|step| step.node == Node::Enter(Kind::PROPERTY_ASSOCIATION)).count();
+    [
+        Job::new(move || our_section(black_box(source), section)),
+        Job::new(move || our_value(black_box(source), first, 0)),
+        Job::new(move || our_value(black_box(source), last, associations - 1)),
+    ]
+}
+
+/// The times of all texts by their jobs, measured in the same rounds.
+fn times<const N: usize>(texts: &[Text], jobs: for<'a> fn(&'a Text, &'a mut [Lent; 3]) -> [Job<'a>; N]) -> Vec<[Quartiles; N]> {
     let mut lent: Vec<_> = texts.iter().map(|_| std::array::from_fn(|_| Lent::new())).collect();
     texts.iter().zip(&mut lent).for_each(|(text, lent)| check(text, &mut lent[0]));
-    let mut all: Vec<Job> = texts.iter().zip(&mut lent).flat_map(|(t, lent)| jobs(&t.text, lent)).collect();
+    let mut all: Vec<Job> = texts.iter().zip(&mut lent).flat_map(|(text, lent)| jobs(text, lent)).collect();
     let found = quartiles(&mut all);
-    let each = texts.iter().zip(found.chunks(JOBS));
+    let each = texts.iter().zip(found.chunks(N));
     each.map(|(t, of_text)| {
         let bytes = t.text.len() as f64;
         std::array::from_fn(|job| Quartiles { lower: of_text[job].lower / bytes, upper: of_text[job].upper / bytes })
@@ -112,25 +135,33 @@ fn places() -> [usize; 2] {
 }
 
 /// Measures all texts and prints what `parse` reads.
-pub fn print_measured(texts: &[Text]) {
+pub fn print_measured(texts: &[Text], values: &[Text]) {
     let [ours, rust] = places();
     println!("{ours} {rust}");
-    for of_text in times(texts) {
-        let numbers: Vec<String> = of_text.iter().flat_map(|q| [q.lower, q.upper]).map(|n| n.to_string()).collect();
-        println!("{}", numbers.join(" "));
-    }
+    times(texts, jobs).iter().for_each(|of_text| print_times(of_text));
+    println!();
+    times(values, value_jobs).iter().for_each(|of_text| print_times(of_text));
+}
+
+fn print_times(of_text: &[Quartiles]) {
+    let numbers: Vec<String> = of_text.iter().flat_map(|q| [q.lower, q.upper]).map(|n| n.to_string()).collect();
+    println!("{}", numbers.join(" "));
 }
 
 fn numbers<T: FromStr>(line: &str) -> Option<Vec<T>> {
     line.split(' ').map(|n| n.parse().ok()).collect()
 }
 
+/// The times in a line.
+fn quartiles_in<const N: usize>(line: &str) -> Option<[Quartiles; N]> {
+    let quartiles: Vec<Quartiles> = numbers(line)?.chunks_exact(2).map(|q| Quartiles { lower: q[0], upper: q[1] }).collect();
+    quartiles.try_into().ok()
+}
+
 pub fn parse(printed: &str) -> Option<Measured> {
-    let mut lines = printed.lines();
+    let (texts, values) = printed.split_once("\n\n")?;
+    let mut lines = texts.lines();
     let [ours, rust] = numbers(lines.next()?)?.try_into().ok()?;
-    let times = lines.map(|line| {
-        let quartiles: Vec<Quartiles> = numbers(line)?.chunks_exact(2).map(|q| Quartiles { lower: q[0], upper: q[1] }).collect();
-        quartiles.try_into().ok()
-    });
-    Some(Measured { ours, rust, times: times.collect::<Option<_>>()? })
+    let times = lines.map(quartiles_in).collect::<Option<_>>()?;
+    Some(Measured { ours, rust, times, values: values.lines().map(quartiles_in).collect::<Option<_>>()? })
 }

@@ -1,6 +1,6 @@
 //! The table: for each text its times and ratios, medians over the places at which the library stood.
 use crate::families::Text;
-use crate::place::{Measured, Times};
+use crate::place::{Measured, Times, ValueTimes};
 
 /// A line of the table. Of two numbers the first is for tokens, the second for sections.
 pub struct Row<'a> {
@@ -79,6 +79,44 @@ pub fn print(rows: &[Row]) {
             row.tree_ratio
         );
     }
+}
+
+/// A line of the value call: its time over the section call's, for the first association and for the last.
+struct ValueRow<'a> {
+    text: &'a Text,
+    /// The section call's nanoseconds per byte.
+    section: f64,
+    ratios: [f64; 2],
+    spread: f64,
+}
+
+impl ValueRow<'_> {
+    fn new<'a>(text: &'a Text, places: &[&ValueTimes]) -> ValueRow<'a> {
+        let ratio = |job: usize| median(places.iter().map(|t| t[job].lower / t[0].lower));
+        ValueRow {
+            text,
+            section: median(places.iter().map(|t| t[0].lower)),
+            ratios: [ratio(1), ratio(2)],
+            spread: largest(places.iter().flat_map(|t| *t).map(|q| q.upper / q.lower)),
+        }
+    }
+
+    fn print(&self) {
+        let Text { family, text, .. } = self.text;
+        let [first, last] = self.ratios;
+        println!("value {family:<22} {:>6} {:>9.2} {first:>7.3} {last:>7.3} {:>7.2}", text.len(), self.section, self.spread);
+    }
+}
+
+/// The value call's times over the section call's, and the highest of them.
+pub fn print_values(texts: &[Text], places: &[Measured]) {
+    println!("value {:<22} {:>6} {:>9} {:>7} {:>7} {:>7}", "family", "bytes", "sections", "first", "last", "spread");
+    let of_text = |at: usize| places.iter().map(|place| &place.values[at]).collect::<Vec<_>>();
+    let rows: Vec<ValueRow> = texts.iter().enumerate().map(|(at, text)| ValueRow::new(text, &of_text(at))).collect();
+    rows.iter().for_each(ValueRow::print);
+    let each = rows.iter().flat_map(|row| row.ratios.map(|ratio| (ratio, row.text)));
+    let (most, text) = each.max_by(|a, b| a.0.total_cmp(&b.0)).expect("a text");
+    println!("value at most {most:.3} times the section's time on {} {}", text.family, text.bytes);
 }
 
 /// How far numbers are apart: the largest over the smallest.
