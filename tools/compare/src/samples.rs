@@ -181,27 +181,28 @@ const SUMS: [&str; 9] = [
     "properties A => \"1;",
 ];
 
-/// Records of the value call: of each value the only association, and of each section every one that may be there, the first behind them and the greatest
-/// number; then of each section, by the oracle's answers, the first association with exactly as many words, one fewer of each sort, and none of the second.
+/// Records of the value call: of each value the only association; of each section every one that may be there, the first behind them and the greatest number;
+/// and of the texts above the first. Then, of every fifth of them that the section call reads, with exactly as many words, one fewer of each sort, and no
+/// event word.
 pub fn values(oracle: &Program) -> Vec<Record> {
-    let ask = |text: &str, number| {
+    let ask = |text: &[u8], number| {
         let bytes = text.len() as u32;
-        Record { family: 0, text: text.into(), tokens: bytes, events: 8 * bytes, form: Form::Value(number) }
+        Record { family: 0, text: text.to_vec(), tokens: bytes, events: 8 * bytes, form: Form::Value(number) }
     };
-    let mut records: Vec<Record> = VALUES.iter().map(|value| ask(&format!("properties A => {value};"), 0)).collect();
+    let mut records: Vec<Record> = VALUES.iter().map(|value| ask(format!("properties A => {value};").as_bytes(), 0)).collect();
     for section in SUMS {
         let arrows = section.matches("=>").count() as u32;
-        records.extend((0..=arrows).chain([u32::MAX]).map(|number| ask(section, number)));
+        records.extend((0..=arrows).chain([u32::MAX]).map(|number| ask(section.as_bytes(), number)));
     }
-    let whole: Vec<Record> = records.iter().map(|record| Record { form: Form::Extended, ..record.clone() }).collect();
-    let output = oracle.output(&whole);
-    let read: Vec<_> = records.iter().cloned().zip(groups(&output).into_iter().map(|group| answer(group).expect("an answer"))).collect();
-    for (record, [number, _, tokens, _, events, _]) in read.into_iter().step_by(3) {
-        if number == 0 {
-            let (tokens, events) = (tokens as u32, events as u32);
-            let lent = [(tokens, events), (tokens, events - 1), (tokens - 1, events), (tokens, TOKENS_ONLY)];
-            records.extend(lent.map(|(tokens, events)| Record { tokens, events, ..record.clone() }));
-        }
+    records.extend(named_texts().iter().map(|text| ask(text, 0)));
+    records.extend(TREES.map(|text| ask(text, 0)));
+    let some: Vec<Record> = records.iter().step_by(5).cloned().collect();
+    let read: Vec<Record> = some.iter().map(|record| Record { form: Form::Extended, ..record.clone() }).collect();
+    let output = oracle.output(&read);
+    for (record, group) in some.iter().zip(groups(&output)) {
+        let [0, _, tokens, _, events, _] = answer(group).expect("an answer").map(|n| n as u32) else { continue };
+        let lent = [(tokens, events), (tokens, events - 1), (tokens - 1, events), (tokens, TOKENS_ONLY)];
+        records.extend(lent.map(|(tokens, events)| Record { tokens, events, ..record.clone() }));
     }
     records
 }
