@@ -154,9 +154,9 @@ fn damaged_sums(rng: &mut Rng) -> Vec<u8> {
 
 /// Sections most of which have whole numbers to compute, and all others.
 pub fn values() -> Vec<Family> {
-    let highest = "1 0 - + * 9223372036854775807 9223372036854775808 16#F# ms";
+    let words = "1 0 - + * 9223372036854775807 9223372036854775808 16#F# ms";
     let mut families = vec![
-        every("every sum", Every::words("properties a =>", highest, 5).then(";")),
+        every("every sum", Every::words("properties a =>", words, 5).then(";")),
         every("every end", Every::words("properties a => - 9223372036854775807", "- + * 0 1 2 /", 6).then(";")),
         every("every based literal", Every::bytes("properties a=>", b"0126#F_", 6).then(";")),
         random("sums", 300, sums),
