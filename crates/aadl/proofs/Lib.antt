@@ -30,6 +30,7 @@ pub mod Computing
 pub mod Examples
 pub mod RecordExamples
 pub mod ValueExamples
+pub mod ValueLaws
 pub mod SameRuns
 pub mod SameNumbers
 pub mod SameMarks
