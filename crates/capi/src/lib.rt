@@ -11,6 +11,7 @@ ghost use Rattle.aadl.specs.WordKinds.{Words-told};
 ghost use Rattle.aadl.specs.Answers.{tokens-answer, section-answer, token-words, event-words, left-in};
 ghost use Rattle.aadl.specs.Demand.{Read-as-derived};
 ghost use Rattle.aadl.specs.Records.{record-words, tree-answer, Recorded};
+ghost use Rattle.aadl.specs.Values.{value-answer, Valued};
 ghost use Rattle.lexer.specs.Filling.{write};
 ghost use Rattle.capi.specs.Numbers.{told, tree-told, text-start, part-told, part-of, parts-told};
 
@@ -86,6 +87,28 @@ pub extern "C" fn gigboda_property_tree(
         a.records,
     ];
     tell(answer, &six);
+}
+
+// The value call: tokens and events into lent words, the answer's numbers into lent numbers; the value is returned.
+#[no_mangle]
+pub extern "C" fn gigboda_association_value(
+    src: &[u8],
+    tokens: &mut [u32],
+    events: &mut [u32],
+    number: usize,
+    answer: &mut [usize],
+) -> i64
+    ensures returned { λ r. ⌜ r ≡ value-answer base (now (src .entry)) (length (now (tokens .entry))) (length (now (events .entry))) number .value ⌝ }
+    ensures answered { λ r. ⌜ now (answer .exit) ≡ told (value-answer base (now (src .entry)) (length (now (tokens .entry))) (length (now (events .entry))) number .answer) (now (answer .entry)) ⌝ }
+    ensures token_words { λ r. ⌜ now (tokens .exit) ≡ left-in (value-answer base (now (src .entry)) (length (now (tokens .entry))) (length (now (events .entry))) number .answer) (token-words (now (src .entry))) (now (tokens .entry)) ⌝ }
+    ensures event_words { λ r. ⌜ now (events .exit) ≡ left-in (value-answer base (now (src .entry)) (length (now (tokens .entry))) (length (now (events .entry))) number .answer) (event-words base (now (src .entry))) (now (events .entry)) ⌝ }
+    ensures derived { λ r. ⌜ (value-answer base (now (src .entry)) (length (now (tokens .entry))) (length (now (events .entry))) number .answer .number ≡ 0 → Read-as-derived (now (src .entry)) (value-answer base (now (src .entry)) (length (now (tokens .entry))) (length (now (events .entry))) number .answer) (now (events .exit))) ⌝ }
+    ensures valued { λ r. ⌜ (value-answer base (now (src .entry)) (length (now (tokens .entry))) (length (now (events .entry))) number .answer .number ≡ 0 → Valued (now (src .entry)) number (value-answer base (now (src .entry)) (length (now (tokens .entry))) (length (now (events .entry))) number)) ⌝ }
+{
+    let a = evaluation::association_value(src, tokens, events, number);
+    let value = a.value;
+    tell_answer(answer, a.answer);
+    value
 }
 
 // The tokens-only call: tokens into lent words, the answer's numbers into lent numbers.

@@ -12,14 +12,14 @@ use borrow.Author.Tests.{eq-eqb}
 use Rattle.aadl.specs.declared.Token.{Token}
 use Rattle.aadl.specs.Kinds.{ERROR, INTEGER-LIT, #_}
 use Rattle.aadl.specs.Bytes.{peek, is-digit, is-ident-continue, run}
-use Rattle.aadl.specs.Tokens.{kind-in, length-in, total, tokens, token-word, token-of, from-token, word-of}
+use Rattle.aadl.specs.Tokens.{kind-in, total, tokens, token-word, token-of, from-token, word-of}
 use Rattle.aadl.specs.Symbols.{symbol-of, C-STYLE, Placed, placed, symbols}
 use Rattle.aadl.specs.Answers.{token-words}
-use Rattle.aadl.proofs.TokenBounds.{token-cases, number-kind, word-kind, mark-kind}
+use Rattle.aadl.proofs.TokenBounds.{token-cases, word-kind, mark-kind}
 use Rattle.aadl.proofs.TokenText.{Token-at, token-at}
 use Rattle.parser.specs.declared.Parser.{Parser}
 use Rattle.parser.specs.Input.{input, standing, rest, ahead, nth}
-use Rattle.section.specs.Standing.{Stood, Passed}
+use Rattle.section.specs.Standing.{Passed}
 use Rattle.section.proofs.Places.{stood-symbols}
 use Rattle.section.proofs.WordsBack.{total-token-words}
 use Rattle.constants.specs.Terms.{ahead-at}

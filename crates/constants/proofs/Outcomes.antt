@@ -10,7 +10,7 @@ use lib.IntN.{ℤ, pos}
 use borrow.Author.Tests.{leb-true, leb-false, le-leb, lt-leb}
 use Rattle.predictive.proofs.Tests.{never}
 use Rattle.aadl.specs.Symbols.{start-of}
-use Rattle.aadl.specs.Values.{Operator, Outcome, exact, beyond, in-range, kept, with-sign, operate, joined}
+use Rattle.aadl.specs.Values.{Operator, Outcome, exact, beyond, kept, with-sign, operate, joined}
 use Rattle.wholes.specs.declared.Whole.{Whole}
 use Rattle.wholes.specs.declared.Checked.{Checked}
 use Rattle.wholes.specs.Integers.{most, by-sign, integer, Result-of}

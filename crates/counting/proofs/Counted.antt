@@ -86,16 +86,6 @@ module _ (b : Band) where
       let far : drop (e - i) (drop i ws) ≡ drop e ws = drop-drop (e - i) i ws ∙ ap (λ (m : ℕ). drop m ws) sum in
       omega (arith, more, ap (λ (vs : List ℕ). nth-within b (n - tally b (take (e - i) (drop i ws))) vs) far, ap (λ (m : ℕ). nth-within b (n - m) (drop e ws)) q)
 
-  -- There are no more of them than words.
-  pub tally-at-most : (ws : List ℕ) → tally b ws ≤ length ws
-  unfolding tally
-  tally-at-most [] = omega arith
-  tally-at-most (w ∷ ws) = go (within-band b w) (tally-at-most ws)
-    where
-      go : (t : Bool) → tally b ws ≤ length ws → cond t (suc (tally b ws)) (tally b ws) ≤ suc (length ws)
-      go true h = omega (arith, h)
-      go false h = omega (arith, h)
-
   -- WHETHER IT IS THERE ------------------------------------------------------------------------------------------------
 
   pub nth-among : (ws : List ℕ) (n : ℕ) → n < tally b ws → nth-within b n ws < length ws

@@ -3,3 +3,6 @@ pub mod WordBands
 pub mod Seeking
 pub mod StartWords
 pub mod CleanWords
+pub mod Judging
+pub mod Demands
+pub mod Calling

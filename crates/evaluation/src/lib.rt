@@ -1,12 +1,12 @@
 // The value call: what the section call does, and the value of an association. Words are counted and found by where they lie among all
 // words; only the association's own tokens are gone over one by one.
 
-use aadl::Answer;
 use aadl::Limits;
 use aadl::ValueAnswer;
 use codec::class_start;
 use codec::start_word;
 use codec::token_word;
+use constants::first_value;
 use counting::Band;
 use counting::count;
 use counting::find;
@@ -19,15 +19,21 @@ use section::property_section_within;
 use syntax_kind::COMMENT;
 use syntax_kind::PROPERTY_ASSOCIATION;
 use syntax_kind::WHITESPACE;
+use wholes::to_i64;
 ghost use mathlib.Core.Path.{_≡_};
 ghost use mathlib.Core.Bool.{_&&_};
-ghost use Prim.Native.Nat.{_<_};
+ghost use Prim.Native.Nat.{ℕ, _<_};
 ghost use lib.ListN.{length};
 ghost use lib.Dec.{eqb};
-ghost use Rattle.aadl.specs.Answers.{token-words};
+ghost use Rattle.aadl.specs.Limits.{base, Allowed};
+ghost use Rattle.aadl.specs.Answers.{token-words, event-words, left-in};
+ghost use Rattle.aadl.specs.Demand.{Read-as-derived};
+ghost use Rattle.aadl.specs.Values.{value-answer, Valued};
 ghost use Rattle.section.specs.Standing.{Passed};
+ghost use Rattle.constants.specs.Terms.{First-value};
 ghost use Rattle.counting.specs.Bands.{tally};
 ghost use Rattle.evaluation.specs.Words as W;
+ghost use Rattle.evaluation.specs.Verdicts.{Was-read, Judged};
 
 // What is found of an association's value: the number and the place of a refusal; or 0, and the value.
 pub struct Verdict {
@@ -114,4 +120,102 @@ fn seek(text: &[u8], toks: &[u32], number: usize) -> Parser
         left: 0,
         stop: 0,
     }
+}
+
+// A refusal.
+fn refusal(number: u32, place: usize) -> Verdict
+    ensures { λ r. ⌜ (r .number ≡ number) × (r .place ≡ place) ⌝ }
+{
+    Verdict {
+        number,
+        place,
+        value: 0,
+    }
+}
+
+// What is found of the value of the association with a number, where a text was read and so many tokens are taken: 9 at the text's length
+// where it is not clean or has no such association, at the association's start where its first value is no constant; 10; or the value.
+fn judge(text: &[u8], toks: &[u32], events: &[u32], taken: usize, number: usize) -> Verdict
+    requires { ⌜ ((limits : Limits) × Was-read limits (now text) (now toks) (now events) taken) ⌝ }
+    ensures { λ r. ⌜ ((limits : Limits) → Was-read limits (now (text .entry)) (now (toks .entry)) (now (events .entry)) taken → Judged limits (now (text .entry)) number r) ⌝ }
+{
+    if !clean(toks, events, taken) {
+        return refusal(9, text.len());
+    }
+    let at = find(events, starting(), number);
+    if events.len() <= at {
+        return refusal(9, text.len());
+    }
+    let first = count(&events[..at], taking());
+    let p = seek(text, toks, first);
+    let t = first_value(text, toks, p);
+    if !t.constant {
+        return refusal(9, p.byte);
+    }
+    let o = t.outcome;
+    if o.beyond {
+        return refusal(10, o.place);
+    }
+    let value = to_i64(o.whole);
+    Verdict {
+        number: 0,
+        place: 0,
+        value,
+    }
+}
+
+// THE CALL
+
+// The value call within limits: what the section call does, and the value of the association with a number, from 0; or one of the refusals
+// 1 to 6 and 8 to 10 with all words zeroed and the value 0.
+pub fn association_value_within(
+    src: &[u8],
+    tokens: &mut [u32],
+    events: &mut [u32],
+    number: usize,
+    limits: Limits,
+) -> ValueAnswer
+    requires { ⌜ Allowed limits ⌝ }
+    ensures answered { λ r. ⌜ r ≡ value-answer limits (now (src .entry)) (length (now (tokens .entry))) (length (now (events .entry))) number ⌝ }
+    ensures token_words { λ r. ⌜ now (tokens .exit) ≡ left-in (r .answer) (token-words (now (src .entry))) (now (tokens .entry)) ⌝ }
+    ensures event_words { λ r. ⌜ now (events .exit) ≡ left-in (r .answer) (event-words limits (now (src .entry))) (now (events .entry)) ⌝ }
+    ensures derived { λ r. ⌜ (r .answer .number ≡ 0 → Read-as-derived (now (src .entry)) (r .answer) (now (events .exit))) ⌝ }
+    ensures valued { λ r. ⌜ (r .answer .number ≡ 0 → Valued (now (src .entry)) number r) ⌝ }
+{
+    let a = property_section_within(src, tokens, events, limits);
+    if a.number != 0 {
+        return ValueAnswer {
+            answer: a,
+            value: 0,
+        };
+    }
+    let v = judge(src, &tokens[..a.tokens], &events[..a.events], a.taken, number);
+    if v.number != 0 {
+        clear(events);
+        return ValueAnswer {
+            answer: refuse(tokens, v.number, v.place),
+            value: 0,
+        };
+    }
+    ValueAnswer {
+        answer: a,
+        value: v.value,
+    }
+}
+
+// The value call: what the section call does, and the value of the association with a number, from 0; or one of the refusals 1 to 6 and 8
+// to 10 with all words zeroed and the value 0.
+pub fn association_value(
+    src: &[u8],
+    tokens: &mut [u32],
+    events: &mut [u32],
+    number: usize,
+) -> ValueAnswer
+    ensures answered { λ r. ⌜ r ≡ value-answer base (now (src .entry)) (length (now (tokens .entry))) (length (now (events .entry))) number ⌝ }
+    ensures token_words { λ r. ⌜ now (tokens .exit) ≡ left-in (r .answer) (token-words (now (src .entry))) (now (tokens .entry)) ⌝ }
+    ensures event_words { λ r. ⌜ now (events .exit) ≡ left-in (r .answer) (event-words base (now (src .entry))) (now (events .entry)) ⌝ }
+    ensures derived { λ r. ⌜ (r .answer .number ≡ 0 → Read-as-derived (now (src .entry)) (r .answer) (now (events .exit))) ⌝ }
+    ensures valued { λ r. ⌜ (r .answer .number ≡ 0 → Valued (now (src .entry)) number r) ⌝ }
+{
+    association_value_within(src, tokens, events, number, BASE)
 }

@@ -7,12 +7,13 @@ use lib.Dec.{eqb}
 use Rattle.aadl.specs.Limits.{base}
 use Rattle.aadl.specs.Answers.{tokens-answer, section-answer, token-words, event-words, left-in}
 use Rattle.aadl.specs.Records.{record-words, tree-answer}
+use Rattle.aadl.specs.Values.{value-answer}
 use Rattle.aadl.specs.declared.Answer.{Answer}
 use Rattle.aadl.specs.Words.{bytes}
 use Rattle.aadl.specs.NumberParts.{number-parts, part-numbers}
-use Rattle.records.specs.Records.{old-word, line, record-lines, tree-lines}
+use Rattle.records.specs.Records.{old-word, line, record-lines, tree-lines, value-lines}
 use Rattle.replay.specs.declared.Head.{Head}
-use Rattle.replay.specs.Heads.{tree, parts}
+use Rattle.replay.specs.Heads.{tree, parts, value}
 
 abbrev pub answer-of : (only : Bool) → (text : List ℕ) → (tokens events : ℕ) → Answer
 answer-of only text m n = cond only (tokens-answer base text m) (section-answer base text m n)
@@ -43,9 +44,17 @@ parts-called text m i =
     let a = tokens-answer base text m in
     line (bytes "parts") (part-numbers (number-parts text (left-in a (token-words text) (replicate m old-word)) i))
 
+-- The lines of the value call, for the association with a number.
+unfoldable pub value-called : (text : List ℕ) → (tokens events number : ℕ) → List ℕ
+value-called text m n i =
+    let r = value-answer base text m n i in
+    let a = r .answer in
+    value-lines r (left-in a (token-words text) (replicate m old-word)) (left-in a (event-words base text) (replicate n old-word))
+
 -- The lines of the call that a record asks for.
 unfoldable pub made : Head → (text : List ℕ) → (tokens events records : ℕ) → List ℕ
 made h text m n k =
     cond (eqb (h .call) tree) (tree-called text m n k)
     (cond (eqb (h .call) parts) (parts-called text m (h .own))
-    (called (h .only) text m n))
+    (cond (eqb (h .call) value) (value-called text m n (h .own))
+    (called (h .only) text m n)))

@@ -14,7 +14,8 @@ number-at bs i = getD bs i 0 + getD bs (i + 1) 0 * 256 + getD bs (i + 2) 0 * 655
 abbrev pub none : ℕ
 none = 4294967295
 
--- The calls by their numbers: the section call or the tokens-only call; the tree call; the tokens-only call with the parts of one of its tokens.
+-- The calls by their numbers: the section call or the tokens-only call; the tree call; the tokens-only call with the parts of one of its tokens; the value
+-- call.
 abbrev pub plain : ℕ
 plain = 0
 
@@ -23,6 +24,9 @@ tree = 1
 
 abbrev pub parts : ℕ
 parts = 5
+
+abbrev pub value : ℕ
+value = 6
 
 -- The bytes of the text, the lent token words and the lent event words stand in a row in both forms of a record. With no event words lent it is the
 -- tokens-only call, if it is no other.
@@ -39,12 +43,12 @@ extended front = eqb (number-at front 0) none
 unfoldable pub record-head : (front back : List ℕ) → Head
 record-head front back = cond (extended front) (head-from back (number-at front 4) (number-at back 12)) (head-from front plain 0)
 
--- Which records of the extended form there are: with the largest settings, of the tree call or of number parts, or of the section call or the tokens-only
+-- Which records of the extended form there are: with the largest settings, of the tree call, of number parts or of the value call, or of the section call or the tokens-only
 -- call with 0 as its own number.
 abbrev pub known : (front back : List ℕ) → Bool
 known front back =
     let call = number-at front 4 in
-    eqb (number-at front 8) none && ((eqb call tree || eqb call parts) || (eqb call plain && eqb (number-at back 12) 0))
+    eqb (number-at front 8) none && (((eqb call tree || eqb call parts) || eqb call value) || (eqb call plain && eqb (number-at back 12) 0))
 
 -- How many record words a record asks for.
 abbrev pub lent-records : Head → ℕ

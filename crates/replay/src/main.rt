@@ -8,6 +8,7 @@ use records::fill;
 use records::put_parts;
 use records::put_record;
 use records::put_tree;
+use records::put_valued;
 use streams::read_full;
 use streams::write_out;
 use writing::put_text;
@@ -18,7 +19,7 @@ ghost use lib.ListN.{length, replicate};
 ghost use Rattle.aadl.specs.Words.{bytes};
 ghost use Rattle.writing.specs.Written.{Wrote};
 ghost use Rattle.aadl.specs.Answers.{token-words, left-in};
-ghost use Rattle.replay.specs.Calls.{answer-of, events-left, called, tree-called, parts-called, made};
+ghost use Rattle.replay.specs.Calls.{answer-of, events-left, called, tree-called, parts-called, value-called, made};
 ghost use Rattle.replay.specs.Heads.{number-at, head-from, extended, known, record-head, lent-records};
 
 // How many bytes, token words and event words the longest record has, and how many record words: four for a record.
@@ -35,15 +36,18 @@ const LINES: usize = 1601296;
 // In a record, in the place of a number: a record of the extended form, the largest settings, no event words.
 const NONE: u32 = 4294967295;
 
-// The calls of a record: the section call or the tokens-only call, the tree call, and the tokens-only call with the parts of one of its tokens.
+// The calls of a record: the section call or the tokens-only call, the tree call, the tokens-only call with the parts of one of its tokens, and the value
+// call.
 const PLAIN: u32 = 0;
 
 const TREE: u32 = 1;
 
 const PARTS: u32 = 5;
 
+const VALUE: u32 = 6;
+
 // The numbers with which a record begins: the call, the text's bytes, the lent words, and whether the record says that no event words are lent, which are
-// 0 then. The last number is the call's own: the tree call's lent record words, or the number of a token.
+// 0 then. The last number is the call's own: the tree call's lent record words, or the number of a token or of an association.
 struct Head {
     call: u32,
     text: usize,
@@ -129,6 +133,23 @@ fn call_parts(src: &[u8], tokens: &mut [u32], number: usize, out: &mut [u8], at:
     put_parts(out, at, lexer::number_parts(src, tokens, number))
 }
 
+// Makes a record's value call on words that are filled anew, and puts its lines.
+fn call_value(
+    src: &[u8],
+    tokens: &mut [u32],
+    events: &mut [u32],
+    number: usize,
+    out: &mut [u8],
+    at: usize,
+) -> usize
+    ensures { λ r. ⌜ Wrote (now (out .entry)) at (value-called (now (src .entry)) (length (now (tokens .entry))) (length (now (events .entry))) number) (now (out .exit)) r ⌝ }
+{
+    fill(tokens);
+    fill(events);
+    let a = evaluation::association_value(src, tokens, events, number);
+    put_valued(out, at, a, tokens, events)
+}
+
 // Makes the call that a record asks for.
 fn make(
     h: Head,
@@ -146,6 +167,9 @@ fn make(
     }
     if h.call == PARTS {
         return call_parts(src, tokens, h.own, out, at);
+    }
+    if h.call == VALUE {
+        return call_value(src, tokens, events, h.own, out, at);
     }
     call(src, tokens, events, h.only, out, at)
 }
@@ -179,7 +203,7 @@ fn is_known(front: &[u8; 16], back: &[u8; 16]) -> bool
     let call = number_at(front, 4);
     let own = number_at(back, 12);
     (number_at(front, 8) == NONE)
-        & ((call == TREE) | (call == PARTS) | ((call == PLAIN) & (own == 0)))
+        & ((call == TREE) | (call == PARTS) | (call == VALUE) | ((call == PLAIN) & (own == 0)))
 }
 
 fn head_of(front: &[u8; 16], back: &[u8; 16]) -> Head

@@ -4,7 +4,6 @@ use mathlib.Core.Path.{_≡_, sym, subst, _∙_}
 use mathlib.Core.List.{List, []}
 use mathlib.Core.Option.{Option}
 use borrow.Author.Needs.{needs}
-use Rattle.aadl.specs.Kinds.{CONSTANT-KW, #_}
 use Rattle.aadl.specs.Values.{Outcome}
 use Rattle.section.specs.Standing.{Passed}
 use Rattle.section.proofs.Passing.{passed-one}

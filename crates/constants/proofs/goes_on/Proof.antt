@@ -1,5 +1,5 @@
 -- The same tests, in the definition's order. Assumes nothing.
-use mathlib.Core.Path.{_≡_, refl, sym, ap, _∙_}
+use mathlib.Core.Path.{sym, ap}
 use mathlib.Core.Bool.{Bool, _||_}
 use lib.Dec.{eqb}
 use Rattle.aadl.specs.Kinds.{SLASH, DOT-DOT, IDENT, #_}

@@ -1,13 +1,11 @@
 -- Behind the signs stands no literal, one that breaks a rule, or one that is kept (Passing, Outcomes). Assumes nothing.
-use Prim.Native.Nat.{ℕ, suc}
+use Prim.Native.Nat.{ℕ}
 use native.Mathlib.Omega.{arith}
-use mathlib.Core.Path.{_≡_, refl, sym, ap, subst, _∙_}
-use mathlib.Core.Bool.{Bool, true, false}
+use mathlib.Core.Path.{_≡_, refl, sym, subst, _∙_}
 use mathlib.Core.List.{[]}
 use lib.ListN.{drop}
 use borrow.Author.Tests.{not-true, not-false}
 use borrow.Author.Needs.{needs}
-use Rattle.aadl.specs.Kinds.{INTEGER-LIT, #_}
 use Rattle.aadl.specs.Values.{literal-number, number-at}
 use Rattle.literals.specs.Capped.{Literal-of}
 use Rattle.section.specs.Standing.{Passed}

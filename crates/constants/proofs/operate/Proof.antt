@@ -1,5 +1,5 @@
 -- The operator by its kind; a difference is the sum with the negated number. Assumes nothing.
-use mathlib.Core.Path.{_≡_, refl, sym, ap, _∙_}
+use mathlib.Core.Path.{refl, sym, ap}
 use lib.IntN.{ℤ, _+ℤ_}
 use borrow.Author.Tests.{eq-eqb, ne-eqb}
 use borrow.Author.Needs.{needs}

@@ -1,12 +1,10 @@
 -- Many words at a turn: a part that has too few of them is passed as a whole (Counted). Assumes nothing.
-use Prim.Native.Nat.{ℕ, _+_, _-_, _≤_}
+use Prim.Native.Nat.{_+_, _-_, _≤_}
 use native.Mathlib.Omega.{arith}
-use native.Mathlib.Nat.{zero-add}
-use mathlib.Core.Path.{_≡_, refl, sym, ap, subst, _∙_}
+use mathlib.Core.Path.{_≡_, sym, _∙_}
 use lib.ListN.{length, drop, length-take}
-use lib.Seq.{drop-drop}
 use borrow.Author.Needs.{needs}
-use Rattle.counting.specs.Bands.{tally, nth-within}
+use Rattle.counting.specs.Bands.{nth-within}
 use Rattle.counting.proofs.Counted.{nth-part}
 use Rattle.counting.proofs.find.Statement.{statement}
 use Rattle.counting.proofs.find.Tie as tie

@@ -1,10 +1,9 @@
 -- One word at a turn: the one that is left to find stands as far on from here as it did from the start (Counted). Assumes nothing.
-use Prim.Native.Nat.{ℕ, suc, _+_, _-_, _≤_}
+use Prim.Native.Nat.{ℕ, _+_, _-_, _≤_}
 use native.Mathlib.Omega.{arith}
-use mathlib.Core.Path.{_≡_, refl, sym, ap, subst, _∙_}
+use mathlib.Core.Path.{_≡_, refl, sym, ap, _∙_}
 use mathlib.Core.Logic.{⊎-elim}
 use lib.ListN.{length, drop}
-use borrow.Author.Tests.{not-false}
 use borrow.Author.Needs.{needs}
 use Rattle.counting.specs.Bands.{nth-within}
 use Rattle.counting.proofs.Counted.{nth-found, nth-passed, nth-other, nth-end}
