@@ -189,7 +189,13 @@ pub fn association_value_within(
             value: 0,
         };
     }
-    let v = judge(src, &tokens[..a.tokens], &events[..a.events], a.taken, number);
+    let v = judge(
+        src,
+        &tokens[..a.tokens],
+        &events[..a.events],
+        a.taken,
+        number,
+    );
     if v.number != 0 {
         clear(events);
         return ValueAnswer {
