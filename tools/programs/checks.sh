@@ -1,5 +1,5 @@
-# What tools/programs-test checks with. It sets to, a folder for files, and the programs list, replay and reference. `text`, `input`, `want`, `whole`,
-# `out` and `err` are files of that folder. A check is given its name, what is wanted, and then a command.
+# What tools/programs-test checks with, and tools/pages-test makes records with. It sets to, a folder for files, and the programs list, replay and
+# reference. `text`, `input`, `want`, `whole`, `out` and `err` are files of that folder. A check is given its name, what is wanted, and then a command.
 text=$to/text
 input=$to/input
 shim="env LD_PRELOAD=$to/shim.so"
