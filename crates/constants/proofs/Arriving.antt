@@ -1,9 +1,9 @@
--- Terms one behind another: what was read comes to an outcome at a token, the operator there and the term behind it come to the next, and the
--- pass goes on from there. One law for products and for sums. Assumes nothing.
-use Prim.Native.Nat.{ℕ, suc, _<_}
+-- Terms one behind another: what waits, and the term for which it waits, come to an outcome at a token, and with the operator there that waits
+-- for the next. The same laws for products and for sums. Assumes nothing.
+use Prim.Native.Nat.{ℕ, suc, _≤_, _<_}
 use native.Mathlib.Omega.{arith}
 use mathlib.Core.Path.{_≡_, refl, sym, ap, subst, _∙_}
-use mathlib.Core.Bool.{Bool, true, false, _||_, cond}
+use mathlib.Core.Bool.{Bool, true, false, _||_}
 use mathlib.Core.List.{List, [], _∷_}
 use mathlib.Core.Option.{Option}
 use lib.ListN.{length, length-drop}
@@ -11,23 +11,18 @@ use lib.Dec.{eqb}
 use Rattle.predictive.specs.Grammar.{has}
 use Rattle.predictive.proofs.Tests.{never}
 use Rattle.aadl.specs.Kinds.{PLUS, MINUS, STAR, SLASH, DOT-DOT, IDENT, #_}
-use Rattle.aadl.specs.Symbols.{symbols, start-of}
+use Rattle.aadl.specs.Symbols.{symbols}
 use Rattle.aadl.specs.Answers.{token-words}
-use Rattle.aadl.specs.Values.{Operator, Outcome, joined}
+use Rattle.aadl.specs.Values.{Outcome}
+use Rattle.parser.specs.declared.Parser.{Parser}
 use Rattle.parser.specs.Input.{input, rest}
 use Rattle.section.specs.Standing.{Passed}
 use Rattle.section.proofs.Passing.{passed-place}
 use Rattle.constants.specs.declared.Term.{Term}
-use Rattle.constants.specs.Pass.{nothing, expects}
-use Rattle.constants.specs.Terms.{Held, passing, ahead-at, Arrived, no-constant, comes-to, Sum-read, Value-read, none-there, one-there}
+use Rattle.constants.specs.Pass.{Pending, nothing, waiting, completed, expects}
+use Rattle.constants.specs.Terms.{operator-of, Waits, waits-none, waits-for, Then, passing, ahead-at, Arrived, no-constant, comes-to, Sum-read, Value-read, none-there, one-there}
 use Rattle.constants.proofs.Ahead.{passed-rest, here}
 use Rattle.constants.proofs.Steps.{over, stopped}
-
--- u is what t, an operator and r behind it come to
-pub record Joins (op : Operator) (t r u : Term) : Type 0 where
-  pub stands : u .p ≡ r .p
-  pub constant : u .constant ≡ r .constant
-  pub outcome : (text : List ℕ) (i : ℕ) (a b : Outcome) → t .p .byte ≡ start-of text i → Held text a (t .outcome) → Held text b (r .outcome) → Held text (joined op i a b) (u .outcome)
 
 module _ (text : List ℕ) where
   -- What the pass gives, and how it goes on, may be said otherwise.
@@ -56,44 +51,43 @@ module _ (text : List ℕ) where
   arrived-at (no-constant f g) e = never (sym f ∙ e)
   arrived-at (comes-to j o f l p h g n) e = (j, (l, p))
 
-  -- One term more.
-  pub arrived-more : (op : Operator) (t r u : Term) {k : ℕ} {all : Option Outcome} {on : ℕ → Outcome → Option Outcome} {ks ks′ : List ℕ} → Joins op t r u → t .constant ≡ true →
-      ((j : ℕ) (o : Outcome) → Passed text j (t .p) → Arrived text (suc j) (on j o) (λ i b. on i (joined op j o b)) ks′ r) → Arrived text k all on ks t → Arrived text k all on ks′ u
-  arrived-more op t r u x c next (no-constant f g) = never (sym f ∙ c)
-  arrived-more op t r u {k} {all} {on} {ks} {ks′} x c next (comes-to j o f l p h g n) = go (next j o p)
-    where
-      go : Arrived text (suc j) (on j o) (λ i b. on i (joined op j o b)) ks′ r → Arrived text k all on ks′ u
-      go (no-constant f′ g′) = no-constant (x .constant ∙ f′) (g ∙ g′)
-      go (comes-to i b f′ l′ p′ h′ g′ n′) =
-          comes-to i (joined op j o b) (x .constant ∙ f′) (omega (arith, l, l′)) (subst (Passed text i) (sym (x .stands)) p′) (x .outcome text j o b (passed-place text j (t .p) p) h h′) (g ∙ g′) n′
+  -- One term more: r behind what waits for it.
+  pub arrived-then : {t r u : Term} {op : ℕ} {w : Pending} {k to : ℕ} {all before : Option Outcome} {on : ℕ → Outcome → Option Outcome} {ks : List ℕ} →
+      Then t op r u → Waits text w op t → k ≤ to → all ≡ before → Arrived text to before (λ j o. on j (completed w o)) ks r → Arrived text k all on ks u
+  arrived-then x y h e (no-constant f g) = no-constant (x .constant ∙ f) (e ∙ g)
+  arrived-then {w = w} x y h e (comes-to j o f l p q g n) =
+      comes-to j (completed w o) (x .constant ∙ f) (omega (arith, h, l)) (subst (Passed text j) (sym (x .stands)) p) (x .outcome text w o y q) (e ∙ g) n
+
+  -- From token k the parser q stands at a term, for which something waits; from there the pass gives `all`.
+  pub record Ready (k : ℕ) (all : Option Outcome) (from-here : ℕ → Pending → Option Outcome) (q : Parser) (op : ℕ) (t : Term) : Type 0 where
+    pub to : ℕ
+    pub from : k ≤ to
+    pub stands : Passed text to q
+    pub pending : Pending
+    pub waits : Waits text pending op t
+    pub gives : all ≡ from-here to pending
+
+  pub ready-first : {k : ℕ} {from-here : ℕ → Pending → Option Outcome} {q : Parser} {t : Term} → Passed text k q → Ready k (from-here k nothing) from-here q 256 t
+  ready-first {k} p = record { to = k; from = omega arith; stands = p; pending = nothing; waits = waits-none refl; gives = refl }
+
+  -- Behind an operator it stands so again.
+  pub ready-again : {t : Term} {op : ℕ} {q : Parser} {k : ℕ} {all : Option Outcome} {on : ℕ → Outcome → Option Outcome} {from-here : ℕ → Pending → Option Outcome} {ks : List ℕ} → t .constant ≡ true →
+      (op ≡ 256 → ⊥) → ((j : ℕ) (o : Outcome) → Passed text j (t .p) → (on j o ≡ from-here (suc j) (waiting (operator-of op) j o)) × Passed text (suc j) q) → Arrived text k all on ks t →
+      Ready k all from-here q op t
+  ready-again c n next (no-constant f g) = never (sym f ∙ c)
+  ready-again {t = t} {op = op} c n next (comes-to j o f l p h g m) =
+      let r = next j o p in
+      record { to = suc j; from = omega (arith, l); stands = r .1; pending = waiting (operator-of op) j o; waits = waits-for n (passed-place text j (t .p) p) h; gives = g ∙ r .0 }
 
 -- WHAT REMAINS ---------------------------------------------------------------------------------------------------------
 
--- The measure of a loop over terms: what remains behind a constant, and nothing once there is none.
-abbrev pub remains : (text ws : List ℕ) → Term → ℕ
-remains text ws t = cond (t .constant) (suc (length (rest (input text ws) (t .p)))) 0
-
-pub remains-less : (text ws : List ℕ) → ws ≡ token-words text → (t u : Term) (j x : ℕ) → t .constant ≡ true → Passed text j (t .p) → ahead-at text j ≡ x → (x ≡ 257 → ⊥) →
-    (u .constant ≡ true → (i : ℕ) × ((suc j < i) × Passed text i (u .p))) → remains text ws u < remains text ws t
-remains-less text ws w t u j x c p e n far = subst (λ (b : Bool). remains text ws u < cond b (suc (length (rest (input text ws) (t .p)))) 0) (sym c) (go (u .constant) refl)
-  where
-    xs : List ℕ
-    xs = symbols text
-
-    go : (b : Bool) → u .constant ≡ b → cond b (suc (length (rest (input text ws) (u .p)))) 0 < suc (length (rest (input text ws) (t .p)))
-    go false f = omega arith
-    go true f =
-        let q = far f in
-        omega (
-          arith,
-          q .1 .0,
-          ap length (passed-rest text j (t .p) p ws w),
-          ap length (passed-rest text (q .0) (u .p) (q .1 .1) ws w),
-          ap length (here xs j x e n),
-          length-drop j xs,
-          length-drop (suc j) xs,
-          length-drop (q .0) xs,
-        )
+-- Fewer symbols remain behind an operator that stands later.
+pub remains-less : (text ws : List ℕ) → ws ≡ token-words text → (q r : Parser) (i j x : ℕ) → Passed text i q → i < j → ahead-at text j ≡ x → (x ≡ 257 → ⊥) → Passed text (suc j) r →
+    length (rest (input text ws) r) < length (rest (input text ws) q)
+remains-less text ws w q r i j x p l e n b =
+    let xs = symbols text in
+    omega
+    (arith, l, ap length (passed-rest text i q p ws w), ap length (passed-rest text (suc j) r b ws w), ap length (here xs j x e n), length-drop i xs, length-drop j xs, length-drop (suc j) xs)
 
 -- THE VALUE ------------------------------------------------------------------------------------------------------------
 

@@ -19,7 +19,7 @@ use Rattle.section.specs.Standing.{Passed}
 use Rattle.constants.specs.declared.Outcome.{Outcome as Told}
 use Rattle.constants.specs.declared.Term.{Term}
 use Rattle.constants.specs.declared.Signed.{Signed}
-use Rattle.constants.specs.Pass.{Pending, nothing, completed, State, expects, behind, pass, past-constant, past-arrow}
+use Rattle.constants.specs.Pass.{Pending, nothing, waiting, completed, State, expects, behind, pass, past-constant, past-arrow}
 
 -- the operator of a kind
 abbrev pub operator-of : ℕ → Operator
@@ -30,6 +30,11 @@ module _ (text : List ℕ) where
   pub data Held : Outcome → Told → Type 0 where
     held-exact : {z : ℤ} {r : Told} → r .beyond ≡ false → integer (r .whole) ≡ z → in-range z ≡ true → Held (exact z) r
     held-beyond : {i : ℕ} {r : Told} → r .beyond ≡ true → r .place ≡ start-of text i → Held (beyond i) r
+
+  -- What waits for an operand: nothing, or a term with the operator where its parser stands.
+  pub data Waits : Pending → (op : ℕ) → Term → Type 0 where
+    waits-none : {op : ℕ} {t : Term} → op ≡ 256 → Waits nothing op t
+    waits-for : {op : ℕ} {t : Term} {i : ℕ} {o : Outcome} → (op ≡ 256 → ⊥) → t .p .byte ≡ start-of text i → Held o (t .outcome) → Waits (waiting (operator-of op) i o) op t
 
   -- The pass over the text's symbols from token k on, in a state.
   abbrev pub passing : (k : ℕ) → State → Option Outcome
@@ -79,3 +84,9 @@ module _ (text : List ℕ) where
   -- the first value of the association that begins with token k
   abbrev pub First-value : (k : ℕ) → Term → Type 0
   First-value k r = Value-read (past-arrow (number-at text) k (drop k (symbols text))) r
+
+-- u is the term r with what waits for it in t.
+pub record Then (t : Term) (op : ℕ) (r u : Term) : Type 0 where
+  pub stands : u .p ≡ r .p
+  pub constant : u .constant ≡ r .constant
+  pub outcome : (text : List ℕ) (w : Pending) (b : Outcome) → Waits text w op t → Held text b (r .outcome) → Held text (completed w b) (u .outcome)

@@ -37,7 +37,7 @@ ghost use Rattle.classes.specs.Classes.{class-table};
 ghost use Rattle.wholes.specs.Integers.{most, integer, Result-of};
 ghost use Rattle.section.specs.Standing.{Passed};
 ghost use Rattle.constants.specs.Pass.{evaluated};
-ghost use Rattle.constants.specs.Terms.{operator-of, Held, Signs-passed, Operand-read, Product-read, Sum-read, Arrow-passed, Value-read, First-value};
+ghost use Rattle.constants.specs.Terms.{operator-of, Held, Then, Signs-passed, Operand-read, Product-read, Sum-read, Arrow-passed, Value-read, First-value};
 
 // What an operand, a product or a sum comes to: a number; or beyond the range, and then where the first literal or operator concerned starts.
 pub struct Outcome {
@@ -58,6 +58,9 @@ pub struct Signed {
     pub p: Parser,
     pub negative: bool,
 }
+
+// No operator: no kind has this number.
+const NOTHING: u32 = 256;
 
 // OPERATIONS
 
@@ -163,12 +166,17 @@ fn operand(text: &[u8], toks: &[u32], p: Parser, classes: &[u8; 256]) -> Term
 }
 
 // PRODUCTS AND SUMS
+//
+// Each function here and above has one call in the code, so that what it hands over stays in registers.
 
-// A term, the operator where its parser stands, and a term behind that.
+// A term, the operator where its parser stands, and a term behind that; where the operator is NOTHING the second term alone.
 fn then(t: Term, op: u32, r: Term) -> Term
     requires { ⌜ (t .outcome .whole .size ≤ most) × (r .outcome .whole .size ≤ most) ⌝ }
-    ensures { λ u. ⌜ (u .p ≡ r .p) × (u .constant ≡ r .constant) × ((text : List ℕ) (i : ℕ) (a b : Vs.Outcome) → t .p .byte ≡ start-of text i → Held text a (t .outcome) → Held text b (r .outcome) → Held text (Vs.joined (operator-of op) i a b) (u .outcome)) × (u .outcome .whole .size ≤ most) ⌝ }
+    ensures { λ u. ⌜ Then t op r u × (u .outcome .whole .size ≤ most) ⌝ }
 {
+    if op == NOTHING {
+        return r;
+    }
     let p = r.p;
     let outcome = join(op, t.p.byte, t.outcome, r.outcome);
     Term {
@@ -183,16 +191,22 @@ fn product(text: &[u8], toks: &[u32], p: Parser, classes: &[u8; 256]) -> Term
     requires { ⌜ (length (now text) < 65536) × (now toks ≡ token-words (now text)) × (now classes ≡ class-table) × ((k : ℕ) × Passed (now text) k p) ⌝ }
     ensures { λ r. ⌜ ((k : ℕ) → Passed (now (text .entry)) k p → Product-read (now (text .entry)) k r) × (r .outcome .whole .size ≤ most) ⌝ }
 {
-    let mut t = operand(text, toks, p, classes);
-    while t.constant {
-        let q = t.p;
-        if current(text, toks, q) != STAR {
+    let mut t = none(p);
+    let mut op = NOTHING;
+    let mut q = p;
+    loop {
+        let r = operand(text, toks, q, classes);
+        t = then(t, op, r);
+        if !t.constant {
             return t;
         }
-        let r = operand(text, toks, pass(text, toks, q), classes);
-        t = then(t, STAR, r);
+        let at = t.p;
+        op = current(text, toks, at);
+        if op != STAR {
+            return t;
+        }
+        q = pass(text, toks, at);
     }
-    t
 }
 
 // Products with `+` or `-` between them.
@@ -200,17 +214,22 @@ fn sum(text: &[u8], toks: &[u32], p: Parser, classes: &[u8; 256]) -> Term
     requires { ⌜ (length (now text) < 65536) × (now toks ≡ token-words (now text)) × (now classes ≡ class-table) × ((k : ℕ) × Passed (now text) k p) ⌝ }
     ensures { λ r. ⌜ ((k : ℕ) → Passed (now (text .entry)) k p → Sum-read (now (text .entry)) k r) ⌝ }
 {
-    let mut t = product(text, toks, p, classes);
-    while t.constant {
-        let q = t.p;
-        let kind = current(text, toks, q);
-        if !((kind == PLUS) | (kind == MINUS)) {
+    let mut t = none(p);
+    let mut op = NOTHING;
+    let mut q = p;
+    loop {
+        let r = product(text, toks, q, classes);
+        t = then(t, op, r);
+        if !t.constant {
             return t;
         }
-        let r = product(text, toks, pass(text, toks, q), classes);
-        t = then(t, kind, r);
+        let at = t.p;
+        op = current(text, toks, at);
+        if !((op == PLUS) | (op == MINUS)) {
+            return t;
+        }
+        q = pass(text, toks, at);
     }
-    t
 }
 
 // THE VALUE
