@@ -1,5 +1,5 @@
--- The associations of a clean text: each starts at a Start of a PROPERTY_ASSOCIATION, behind
--- the tokens taken before it, since no other node of a derivation is one; and its constant comes to what the pass gives from there. Assumes nothing.
+-- The associations of a clean text: each starts at a Start of a PROPERTY_ASSOCIATION, behind the tokens taken before it, since no other node
+-- of a derivation is one; and its constant comes to what the pass gives from there. Assumes nothing.
 use Prim.Native.Nat.{ℕ, suc, _+_}
 use native.Mathlib.Omega.{arith}
 use mathlib.Core.Path.{_≡_, refl, sym, ap, _∙_}

@@ -1,6 +1,6 @@
 -- The call, way by way (Calling): the section call refused, the verdict is a refusal, or it is a value. The words that the section call
 -- counted are within those lent, and are the text's. Assumes nothing.
-use mathlib.Core.Path.{_≡_, sym, ap, subst, _∙_}
+use mathlib.Core.Path.{_≡_, sym, ap, subst}
 use lib.Seq.{length-take-le}
 use lib.IntN.{ℤ, pos}
 use mir.Syntax.{w64}
