@@ -16,7 +16,7 @@ pub struct Band {
 }
 
 // How many words are gone over at once.
-const STRIDE: usize = 32;
+const STRIDE: usize = 64;
 
 fn within(w: u32, b: Band) -> bool
     ensures { λ r. ⌜ r ≡ within-band b w ⌝ }

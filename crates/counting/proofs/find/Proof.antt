@@ -22,7 +22,7 @@ count-requires : tie.Need-count-requires Inv-loop μ-loop
 count-requires c κs =
     let l = c .before .before .loop in
     let ws = c .before .before .before .before .args .words .now in
-    omega (arith, length-take (l .at + 32 - l .at) (drop (l .at) ws))
+    omega (arith, length-take (l .at + 64 - l .at) (drop (l .at) ws))
 
 returns : tie.Need-returns Inv-loop μ-loop
 returns c = c .find-from .ensures ∙ c .before .before .before .before .before .loop .inv .0
@@ -31,8 +31,8 @@ loop-again : tie.Need-loop-again Inv-loop μ-loop
 loop-again c =
     let l = c .before .before .before .before .loop in
     let a = c .before .before .before .before .before .before .args in
-    let end : l .at + 32 ≤ length (a .words .now) = omega (arith, c .before .before .before .loop-test .taken, l .inv .1) in
-    (sym (nth-part (a .b) (a .words .now) (l .left) (l .at) (l .at + 32) (c .before .count .result) (omega arith) end (c .before .count .ensures) (c .if1 .left)) ∙ l .inv .0, end)
+    let end : l .at + 64 ≤ length (a .words .now) = omega (arith, c .before .before .before .loop-test .taken, l .inv .1) in
+    (sym (nth-part (a .b) (a .words .now) (l .left) (l .at) (l .at + 64) (c .before .count .result) (omega arith) end (c .before .count .ensures) (c .if1 .left)) ∙ l .inv .0, end)
 
 returns-2 : tie.Need-returns-2 Inv-loop μ-loop
 returns-2 c = c .find-from2 .ensures ∙ c .before .before .loop .inv .0
