@@ -25,17 +25,17 @@ told t p w = record { beyond = t; place = p; whole = w }
 
 module _ (text : List ℕ) (op : Operator) (i : ℕ) where
   -- the left operand, or the right one, is beyond the range
-  pub left-beyond : (a b : Outcome) (x : Told) → x .beyond ≡ true → Held text a x → Held text (joined op i a b) x
-  left-beyond (exact z) b x t (held-exact f g h) = never (sym f ∙ t)
-  left-beyond (beyond j) b x t (held-beyond f g) = held-beyond f g
+  pub left-beyond : (a b : Outcome) (x r : Told) → x .beyond ≡ true → r .beyond ≡ true → r .place ≡ x .place → Held text a x → Held text (joined op i a b) r
+  left-beyond (exact z) b x r t c d (held-exact f g h) = never (sym f ∙ t)
+  left-beyond (beyond j) b x r t c d (held-beyond f g) = held-beyond c (d ∙ g)
 
-  pub right-beyond : (a b : Outcome) (x y : Told) → x .beyond ≡ false → y .beyond ≡ true → Held text a x → Held text b y → Held text (joined op i a b) y
-  right-beyond (exact z) b x y s t (held-exact f g h) k = go b k
+  pub right-beyond : (a b : Outcome) (x y r : Told) → x .beyond ≡ false → y .beyond ≡ true → r .beyond ≡ true → r .place ≡ y .place → Held text a x → Held text b y → Held text (joined op i a b) r
+  right-beyond (exact z) b x y r s t c d (held-exact f g h) k = go b k
     where
-      go : (c : Outcome) → Held text c y → Held text (joined op i (exact z) c) y
+      go : (e : Outcome) → Held text e y → Held text (joined op i (exact z) e) r
       go (exact u) (held-exact f g h) = never (sym f ∙ t)
-      go (beyond j) (held-beyond f g) = held-beyond f g
-  right-beyond (beyond j) b x y s t (held-beyond f g) k = never (sym s ∙ f)
+      go (beyond j) (held-beyond f g) = held-beyond c (d ∙ g)
+  right-beyond (beyond j) b x y r s t c d (held-beyond f g) k = never (sym s ∙ f)
 
   -- neither is: their operator's result is kept if it is in the range
   kept-held : (z : ℤ) (p : ℕ) (r : Checked) → p ≡ start-of text i → Result-of z r → Held text (kept i z) (told (not (r .fits)) p (r .whole))

@@ -24,7 +24,7 @@ use wholes::multiply;
 use wholes::negate;
 ghost use mathlib.Core.Path.{_≡_};
 ghost use Prim.Native.Nat.{ℕ, _≤_, _<_};
-ghost use mathlib.Core.Bool.{false};
+ghost use mathlib.Core.Bool.{true, false};
 ghost use mathlib.Core.List.{List, [], _∷_};
 ghost use lib.ListN.{length, drop};
 ghost use Rattle.predictive.specs.Grammar.{has};
@@ -77,16 +77,29 @@ fn operate(op: u32, x: Whole, y: Whole) -> Checked
     add(x, y)
 }
 
+fn beyond(place: usize) -> Outcome
+    ensures { λ r. ⌜ (r .beyond ≡ true) × (r .place ≡ place) × (r .whole .size ≡ 0) ⌝ }
+{
+    Outcome {
+        beyond: true,
+        place,
+        whole: Whole {
+            negative: false,
+            size: 0,
+        },
+    }
+}
+
 // "Left operand, right operand, then their operator": the first that leaves the range.
 fn join(op: u32, place: usize, x: Outcome, y: Outcome) -> Outcome
     requires { ⌜ (x .whole .size ≤ most) × (y .whole .size ≤ most) ⌝ }
     ensures { λ r. ⌜ ((text : List ℕ) (i : ℕ) (a b : Vs.Outcome) → place ≡ start-of text i → Held text a x → Held text b y → Held text (Vs.joined (operator-of op) i a b) r) × (r .whole .size ≤ most) ⌝ }
 {
     if x.beyond {
-        return x;
+        return beyond(x.place);
     }
     if y.beyond {
-        return y;
+        return beyond(y.place);
     }
     let r = operate(op, x.whole, y.whole);
     let whole = r.whole;

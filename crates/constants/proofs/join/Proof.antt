@@ -1,4 +1,5 @@
 -- The left operand, the right one, then their operator (Outcomes). Assumes nothing.
+use native.Mathlib.Omega.{arith}
 use borrow.Author.Needs.{needs}
 use Rattle.constants.specs.Terms.{operator-of}
 use Rattle.constants.proofs.Outcomes.{left-beyond, right-beyond, joined-held}
@@ -7,13 +8,18 @@ use Rattle.constants.proofs.join.Tie as tie
 
 returns : tie.Need-returns
 returns c =
-    let p = c .before in
-    (λ text i a b e h k. left-beyond text (operator-of (p .args .op)) i a b (p .args .x) (c .if1 .taken) h, p .pre .0)
+    let p = c .before .before in
+    let r = c .beyond in
+    (λ text i a b e h k. left-beyond text (operator-of (p .args .op)) i a b (p .args .x) (r .result) (c .before .if1 .taken) (r .ensures .0) (r .ensures .1) h, omega (arith, r .ensures .2))
 
 returns-2 : tie.Need-returns-2
 returns-2 c =
-    let p = c .before .before in
-    (λ text i a b e h k. right-beyond text (operator-of (p .args .op)) i a b (p .args .x) (p .args .y) (c .before .if1 .left) (c .if2 .taken) h k, p .pre .1)
+    let p = c .before .before .before in
+    let r = c .beyond2 in (
+      λ text i a b e h k.
+          right-beyond text (operator-of (p .args .op)) i a b (p .args .x) (p .args .y) (r .result) (c .before .before .if1 .left) (c .before .if2 .taken) (r .ensures .0) (r .ensures .1) h k,
+      omega (arith, r .ensures .2),
+    )
 
 returns-3 : tie.Need-returns-3
 returns-3 c =
@@ -25,4 +31,4 @@ returns-3 c =
     )
 
 pub join-spec : {M : Type 1} → statement M
-join-spec = tie.close (tie.spec returns returns-2 (λ c κs. search needs) returns-3)
+join-spec = tie.close (tie.spec (λ c κs. search needs) returns (λ c κs. search needs) returns-2 (λ c κs. search needs) returns-3)
