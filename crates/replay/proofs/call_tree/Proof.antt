@@ -1,8 +1,8 @@
 -- The lines are those of the answer and of what it leaves in the words that were filled. Assumes nothing.
 use Prim.Native.Nat.{ℕ}
-use mathlib.Core.Path.{_≡_, ap, _∙_}
+use mathlib.Core.Path.{_≡_, _∙_}
 use mathlib.Core.List.{List}
-use lib.ListN.{length, replicate, length-replicate}
+use lib.ListN.{length, replicate}
 use Rattle.aadl.specs.Limits.{base}
 use Rattle.aadl.specs.Answers.{token-words, event-words, left-in}
 use Rattle.aadl.specs.Records.{record-words, tree-answer}
@@ -10,12 +10,10 @@ use Rattle.aadl.specs.declared.TreeAnswer.{TreeAnswer}
 use Rattle.writing.proofs.WriteLaws.{wrote-same}
 use Rattle.records.specs.Records.{old-word, tree-lines}
 use Rattle.replay.specs.Calls.{tree-called}
+use Rattle.replay.proofs.Filled.{long}
 use borrow.Author.Needs.{needs}
 use Rattle.replay.proofs.call_tree.Statement.{statement}
 use Rattle.replay.proofs.call_tree.Tie as tie
-
-long : (j : ℕ) (ws : List ℕ) → ws ≡ replicate j old-word → length ws ≡ j
-long j ws e = ap length e ∙ length-replicate j old-word
 
 module _ (text : List ℕ) (m n k : ℕ) (ts es rs : List ℕ) (f : ts ≡ replicate m old-word) (g : es ≡ replicate n old-word) (h : rs ≡ replicate k old-word) where
   lines : (a : TreeAnswer) (us vs ws : List ℕ) → a ≡ tree-answer base text (length ts) (length es) (length rs) → us ≡ left-in (a .answer) (token-words text) ts →

@@ -1,8 +1,8 @@
 -- The lines are those of the answer and of what it leaves in the words that were filled. Assumes nothing.
 use Prim.Native.Nat.{ℕ}
-use mathlib.Core.Path.{_≡_, ap, _∙_}
+use mathlib.Core.Path.{_≡_, _∙_}
 use mathlib.Core.List.{List}
-use lib.ListN.{length, replicate, length-replicate}
+use lib.ListN.{length, replicate}
 use Rattle.aadl.specs.Limits.{base}
 use Rattle.aadl.specs.Answers.{token-words, event-words, left-in}
 use Rattle.aadl.specs.Values.{value-answer}
@@ -10,12 +10,10 @@ use Rattle.aadl.specs.declared.ValueAnswer.{ValueAnswer}
 use Rattle.writing.proofs.WriteLaws.{wrote-same}
 use Rattle.records.specs.Records.{old-word, value-lines}
 use Rattle.replay.specs.Calls.{value-called}
+use Rattle.replay.proofs.Filled.{long}
 use borrow.Author.Needs.{needs}
 use Rattle.replay.proofs.call_value.Statement.{statement}
 use Rattle.replay.proofs.call_value.Tie as tie
-
-long : (j : ℕ) (ws : List ℕ) → ws ≡ replicate j old-word → length ws ≡ j
-long j ws e = ap length e ∙ length-replicate j old-word
 
 module _ (text : List ℕ) (m n k : ℕ) (ts es : List ℕ) (f : ts ≡ replicate m old-word) (g : es ≡ replicate n old-word) where
   lines : (a : ValueAnswer) (us vs : List ℕ) → a ≡ value-answer base text (length ts) (length es) k → us ≡ left-in (a .answer) (token-words text) ts →
