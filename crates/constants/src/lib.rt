@@ -180,7 +180,7 @@ fn operand(text: &[u8], toks: &[u32], p: Parser, classes: &[u8; 256]) -> Term
 
 // PRODUCTS AND SUMS
 //
-// Each function here and above has one call in the code, so that what it hands over stays in registers.
+// `operand` and `product` have one call each in the code: so they are put into their caller, and terms stay in registers.
 
 // A term, the operator where its parser stands, and a term behind that; where the operator is NOTHING the second term alone.
 fn then(t: Term, op: u32, r: Term) -> Term
