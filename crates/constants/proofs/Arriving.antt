@@ -25,11 +25,7 @@ use Rattle.constants.proofs.Ahead.{passed-rest, here}
 use Rattle.constants.proofs.Steps.{over, stopped}
 
 module _ (text : List ℕ) where
-  -- What the pass gives, and how it goes on, may be said otherwise.
-  pub arrived-from : {k : ℕ} {all all′ : Option Outcome} {on : ℕ → Outcome → Option Outcome} {ks : List ℕ} {r : Term} → all′ ≡ all → Arrived text k all on ks r → Arrived text k all′ on ks r
-  arrived-from e (no-constant f g) = no-constant f (e ∙ g)
-  arrived-from e (comes-to j o f l p h g n) = comes-to j o f l p h (e ∙ g) n
-
+  -- How the pass goes on may be said otherwise.
   pub arrived-on : {k : ℕ} {all : Option Outcome} {on on′ : ℕ → Outcome → Option Outcome} {ks : List ℕ} {r : Term} →
       ((j : ℕ) (o : Outcome) → has ks (ahead-at text j) ≡ false → on j o ≡ on′ j o) → Arrived text k all on ks r → Arrived text k all on′ ks r
   arrived-on e (no-constant f g) = no-constant f g
