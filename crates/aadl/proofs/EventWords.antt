@@ -1,4 +1,4 @@
--- An event's word tells the event: kinds are below 256 and forward parents and messages below 65,536, so the three numbers in the word
+-- An event's first word tells the event: kinds are below 256 and forward parents and messages below 65,536, so the three numbers in the word
 -- do not run into each other. That the grammar's own kinds and messages are is computed; forward parents are below the number of
 -- events. Assumes nothing.
 use Prim.Native.Nat.{ℕ, suc, _+_, _*_, _/_, _%_, _≤_, _<_}
@@ -6,8 +6,8 @@ use native.Mathlib.Omega.{arith}
 use mathlib.Core.Path.{_≡_, refl, sym, ap, ap₂, subst, _∙_}
 use mathlib.Core.Bool.{Bool, true, false, cond}
 use mathlib.Core.List.{List, [], _∷_, _++_, map}
-use lib.ListN.{length, length-append, length-map}
-use lib.Seq.{take-append-seam}
+use lib.ListN.{length, length-append}
+use lib.Seq.{take-at}
 use lib.Dec.{ltb}
 use borrow.Author.Tests.{lt-ltb, ltb-true}
 use Rattle.predictive.specs.Forest.{Forest, nil, leaf, err, node, wrap, Fault, message, refusal}
@@ -19,14 +19,15 @@ use Rattle.predictive.proofs.Bounds.{Small, form-fits, forms-fit, part-fits, Sh
 use Rattle.aadl.specs.declared.Token.{Token}
 use Rattle.aadl.specs.Limits.{Limits, most-events}
 use Rattle.aadl.specs.Tokens.{tokens}
-use Rattle.aadl.specs.Symbols.{is-trivia, shown, symbols, without-trivia, kinds}
+use Rattle.aadl.specs.Symbols.{is-trivia, shown, symbols, raw-number, without-trivia, kinds}
 use Rattle.aadl.specs.Section.{Rule, rules, Expression, Negated, Operand, Classifier, keywords, names, grammar, section}
-use Rattle.aadl.specs.Encoding.{event-word, event-by, event-in, events-in}
+use Rattle.aadl.specs.Encoding.{event-word, event-by, event-in, words-for, told-by, events-in}
 use Rattle.aadl.specs.Reading.{reading, events, too-deep}
 use Rattle.aadl.specs.Answers.{event-words}
 use Rattle.aadl.proofs.Lists.{Each, each-append}
 use Rattle.aadl.proofs.TokensCover.{kinds-small}
 use Rattle.aadl.proofs.SymbolLaws.{symbols-show-kinds}
+use Rattle.aadl.proofs.EventPairs.{length-words-of, first-words-of}
 
 abbrev kind-fits : ℕ → Bool
 kind-fits k = ltb k 256
@@ -149,12 +150,13 @@ result-events (done f ys) h l = small-events f 0 (h .forest) (omega arith) l
 
 -- The event words of a section that no opener too many stands in tell its events ..
 pub words-tell-events : (limits : Limits) (text : List ℕ) → too-deep limits (symbols text) ≡ false → length (events limits (symbols text)) ≤ most-events →
-    map event-in (event-words limits text) ≡ events limits (symbols text)
+    told-by (event-words limits text) ≡ events limits (symbols text)
 unfolding events too-deep reading
 words-tell-events limits text n l =
     let xs = symbols text in
     let r = reading limits xs in
-    events-back (events-of r)
+    ap (map event-in) (first-words-of (raw-number text) 0 (events-of r))
+    ∙ events-back (events-of r)
     (told (events-of r)
     (result-events r (reading-fits kind-fits fault-fits grammar (suc (length xs)) refl rules-fit (limits .openers) section section-fits xs (symbols-small text)) (omega (arith, l))) n)
 
@@ -162,7 +164,7 @@ words-tell-events limits text n l =
 pub first-words-tell : (limits : Limits) (text rest : List ℕ) → too-deep limits (symbols text) ≡ false → length (events limits (symbols text)) ≤ most-events →
     events-in (length (events limits (symbols text))) (event-words limits text ++ rest) ≡ events limits (symbols text)
 first-words-tell limits text rest n l =
+    let es = events limits (symbols text) in
     let ws = event-words limits text in
-    ap (λ (k : ℕ). events-in k (ws ++ rest)) (sym (length-map (events limits (symbols text)) event-word))
-    ∙ ap (map event-in) (take-append-seam ws rest)
+    ap told-by (take-at ws rest (words-for (length es)) (length-words-of (raw-number text) 0 es))
     ∙ words-tell-events limits text n l

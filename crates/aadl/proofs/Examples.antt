@@ -5,21 +5,24 @@ use mathlib.Core.Path.{_≡_, refl}
 use mathlib.Core.Logic.{inl, inr}
 use mathlib.Core.Bool.{Bool, true, false}
 use mathlib.Core.List.{List, [], _∷_, _++_}
-use lib.ListN.{getD, replicate}
+use lib.ListN.{getD, drop, replicate}
 use Rattle.predictive.specs.Forest.{Forest, nil, leaf, node, _then_, message}
 use Rattle.predictive.specs.Events.{start, finish, error, erring, any-fault}
-use Rattle.predictive.specs.Tree.{spell}
+use Rattle.predictive.specs.Events as E
+use Rattle.predictive.specs.Tree.{chain, spell}
 use Rattle.aadl.specs.declared.Quoted.{Quoted}
 use Rattle.aadl.specs.Limits.{Limits, base}
-use Rattle.aadl.specs.Kinds.{#_, ERROR, WHITESPACE, SEMICOLON, DOT-DOT, L-PAREN, R-PAREN, FAT-ARROW, PLUS, MINUS, STAR, INTEGER-LIT, REAL-LIT, STRING-LIT, IDENT, MODES-KW, PROPERTIES-KW, APPLIES-KW, TO-KW, NOT-KW, IN-KW, OUT-KW, EVENT-KW, DATA-KW, PORT-KW, CLASSIFIER-KW}
+use Rattle.aadl.specs.Kinds.{#_, ERROR, WHITESPACE, SEMICOLON, DOT-DOT, L-PAREN, R-PAREN, FAT-ARROW, PLUS, MINUS, STAR, INTEGER-LIT, REAL-LIT, STRING-LIT, IDENT, MODES-KW, PROPERTIES-KW, APPLIES-KW, TO-KW, NONE-KW, NOT-KW, IN-KW, OUT-KW, EVENT-KW, DATA-KW, PORT-KW, CLASSIFIER-KW}
 use Rattle.aadl.specs.Kinds.{DIRECTION, PROTOTYPE-BINDING, PROTOTYPE-BINDING-LIST, CLASSIFIER-REF, CLASSIFIER-VALUE, PROPERTY-SECTION, PROPERTY-ASSOCIATION, PROPERTY-REF, PROPERTY-EXPRESSION, BOOLEAN-VALUE, INTEGER-VALUE, RANGE-VALUE, BINARY-EXPR, APPLIES-TO, CONTAINMENT-PATH}
 use Rattle.aadl.specs.Words.{bytes}
 use Rattle.aadl.specs.Tokens.{token, string-of, string-lit, span, number, number-of, tokens, token-word}
 use Rattle.aadl.specs.NumberParts.{no-number, number-parts}
 use Rattle.aadl.specs.WordKinds.{Mixed, is-word}
 use Rattle.aadl.specs.Symbols.{symbols}
+use Rattle.aadl.specs.Encoding.{event-word, first-words}
 use Rattle.aadl.specs.Reading.{events}
-use Rattle.aadl.specs.Answers.{tokens-answer, section-answer, answered, refused, left-in, token-words}
+use Rattle.aadl.specs.Answers.{tokens-answer, section-answer, answered, refused, left-in, token-words, event-words}
+use Rattle.aadl.specs.EventTokens.{opened-at}
 use Rattle.aadl.specs.Listing.{column, listing}
 use Rattle.aadl.proofs.Computing.{definitions}
 use Rattle.aadl.proofs.Asides.{is-message}
@@ -71,6 +74,29 @@ pub printed-listing :
     ≡ bytes "event,class,kind,last,line,column\n0,S,169,0,1,1\n1,T,60,1,1,1\n2,S,170,0,2,3\n3,S,171,0,2,3\n4,T,33,1,2,3\n5,F,0,0,2,5\n6,T,18,1,2,5\n7,S,183,0,2,8\n8,T,30,1,2,8\n9,T,33,1,2,10\n10,F,0,0,2,12\n11,T,5,1,2,12\n12,F,0,0,3,1\n13,F,0,0,3,1\n"
 unfolding definitions
 printed-listing = refl
+
+-- EVENT WORDS ----------------------------------------------------------------------------------------------------------
+
+-- the second words of a text's events
+abbrev seconds : List ℕ → List ℕ
+seconds text = first-words (drop 1 (event-words base text) ++ (0 ∷ []))
+
+-- A Token has its own number, trivia are counted too, and the last Finish has the token count; the Start of a range, which is begun behind
+-- its first operand, has the number of `..`, and the Start at which the range opens that of its first token; an empty node at the end has
+-- the token count; an odd last word is left alone.
+pub record Paired : Type 0 where
+  pub none :
+      event-words base (bytes " properties none; ")
+      ≡ event-word (start (# PROPERTY-SECTION) 0) ∷ 1 ∷ event-word (E.token (# PROPERTIES-KW)) ∷ 1 ∷ event-word (E.token (# NONE-KW)) ∷ 3
+      ∷ event-word (E.token (# SEMICOLON)) ∷ 4 ∷ event-word finish ∷ 6 ∷ []
+  pub range : seconds (bytes "properties A=>1..2;") ≡ 0 ∷ 0 ∷ 2 ∷ 2 ∷ 2 ∷ 3 ∷ 3 ∷ 4 ∷ 4 ∷ 5 ∷ 5 ∷ 5 ∷ 6 ∷ 6 ∷ 7 ∷ 7 ∷ 7 ∷ 8 ∷ 8 ∷ []
+  pub range-opens : opened-at (λ n. false) 0 (events base (symbols (bytes "properties A=>1..2;"))) ≡ 0 ∷ 2 ∷ 3 ∷ 7 ∷ 7 ∷ 12 ∷ []
+  pub empty-at-end : drop 12 (seconds (bytes "properties A=>1 applies to")) ≡ 8 ∷ 9 ∷ 9 ∷ 9 ∷ 9 ∷ 9 ∷ 9 ∷ []
+  pub odd-word-kept : drop 6 (left-in (answered 1 1 3) (event-words base (bytes "properties")) (replicate 7 5)) ≡ 5 ∷ []
+
+pub paired : Paired
+unfolding definitions opened-at chain
+paired = record { none = refl; range = refl; range-opens = refl; empty-at-end = refl; odd-word-kept = refl }
 
 -- NUMBERS --------------------------------------------------------------------------------------------------------------
 
@@ -223,11 +249,11 @@ pub record Refused : Type 0 where
   pub no-token-word-first : section-answer small (bytes "properties \"") 2 100 ≡ refused 3 11
   pub never-closed-first : section-answer small (bytes " -- x\n \"a") 100 100 ≡ refused 8 7
   pub no-properties : section-answer small (bytes " -- x\n none") 100 100 ≡ refused 4 7
-  pub no-event-word : section-answer small (bytes "properties none ;") 100 4 ≡ refused 5 17
-  pub no-event-at-all : section-answer small (bytes " properties") 100 0 ≡ refused 5 1
-  pub one-opener : section-answer small (bytes "properties A => +1;") 100 16 ≡ answered 9 6 16
-  pub two-openers : section-answer small (bytes "properties A => ++1;") 100 9 ≡ refused 6 17
-  pub two-openers-late : section-answer small (bytes "properties A => ++1;") 100 8 ≡ refused 5 16
+  pub no-event-word : section-answer small (bytes "properties none ;") 100 9 ≡ refused 5 17
+  pub no-event-at-all : section-answer small (bytes " properties") 100 1 ≡ refused 5 1
+  pub one-opener : section-answer small (bytes "properties A => +1;") 100 32 ≡ answered 9 6 16
+  pub two-openers : section-answer small (bytes "properties A => ++1;") 100 18 ≡ refused 6 17
+  pub two-openers-late : section-answer small (bytes "properties A => ++1;") 100 17 ≡ refused 5 16
   pub sixty-four : section-answer base (signs 64) 100 1000 ≡ answered 72 69 205
   pub sixty-five : section-answer base (signs 65) 100 1000 ≡ refused 6 80
   pub words-zeroed : left-in (refused 8 16) (1 ∷ 2 ∷ []) (7 ∷ 7 ∷ 7 ∷ []) ≡ 0 ∷ 0 ∷ 0 ∷ []

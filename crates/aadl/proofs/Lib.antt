@@ -12,6 +12,7 @@ pub mod KeywordKinds
 pub mod SectionTest
 pub mod Literal
 pub mod SymbolLaws
+pub mod RawNumbers
 pub mod Unmarked
 pub mod Demand3
 pub mod Checks
@@ -20,10 +21,13 @@ pub mod AnswerLaws
 pub mod Refusals
 pub mod NeverClean
 pub mod Asides
+pub mod EventPairs
 pub mod EventWords
 pub mod AnswerDerived
 pub mod RecordLaws
 pub mod TreeAnswers
+pub mod NodesOpen
+pub mod EventTokens
 pub mod ValueAnswers
 pub mod RecordsUpwards
 pub mod Computing

@@ -50,12 +50,12 @@ texts = record { bare = refl; range = refl; leaning = refl; empty-path = refl; e
 -- Four words are a record's; one record too few is refused after all else, at the token of the first node without one. A string that is not
 -- closed is refused before the section is looked at.
 pub record Answers : Type 0 where
-  pub bare : tree-answer base (bytes "properties") 1 3 4 ≡ with-records (answered 1 1 3) 1
-  pub no-words : tree-answer base (bytes " properties") 2 3 3 ≡ tree-refused 7 1
-  pub one-short : tree-answer base (bytes "properties A => 1 .. 2;") 12 19 23 ≡ tree-refused 7 21
-  pub enough : tree-answer base (bytes "properties A => 1 .. 2;") 12 19 24 ≡ with-records (answered 12 7 19) 6
+  pub bare : tree-answer base (bytes "properties") 1 6 4 ≡ with-records (answered 1 1 3) 1
+  pub no-words : tree-answer base (bytes " properties") 2 6 3 ≡ tree-refused 7 1
+  pub one-short : tree-answer base (bytes "properties A => 1 .. 2;") 12 38 23 ≡ tree-refused 7 21
+  pub enough : tree-answer base (bytes "properties A => 1 .. 2;") 12 38 24 ≡ with-records (answered 12 7 19) 6
   pub at-end : tree-answer base (bytes "properties A => 1 applies to") 100 100 23 ≡ tree-refused 7 28
-  pub events-first : tree-answer base (bytes "properties A => 1 .. 2;") 12 18 0 ≡ tree-refused 5 23
+  pub events-first : tree-answer base (bytes "properties A => 1 .. 2;") 12 37 0 ≡ tree-refused 5 23
   pub never-closed : tree-answer base (bytes "properties A => \"1") 7 0 0 ≡ tree-refused 8 16
 
 pub answers : Answers

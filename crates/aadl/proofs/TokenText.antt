@@ -48,7 +48,7 @@ module _ (t : Token) (h : t .kind < 128) (l : t .len < 65536) where
 -- THE WORDS OF A TEXT --------------------------------------------------------------------------------------------------
 
 -- the words of some tokens count the bytes before each
-counted : (rest : List ℕ) (i : ℕ) (ts : List Token) → Each (λ (t : Token). t .kind < 128) ts → lengths ts < 65536 → i ≤ length ts →
+pub counted : (rest : List ℕ) (i : ℕ) (ts : List Token) → Each (λ (t : Token). t .kind < 128) ts → lengths ts < 65536 → i ≤ length ts →
     total (take i (map token-word ts ++ rest)) ≡ lengths (take i ts)
 counted rest zero ts k l h = refl
 counted rest (suc i) [] k l h = absurd (not-suc-le-zero h)

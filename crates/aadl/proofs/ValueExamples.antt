@@ -153,7 +153,7 @@ pub record Which : Type 0 where
   pub not-taken : value-in "properties A => 1; ;" 0 ≡ value-refused 9 20
   -- the section's own refusals come first
   pub no-section : value-in "A => 1;" 0 ≡ value-refused 4 0
-  pub no-room : value-answer base (bytes "properties A => 1;") 8 12 0 ≡ value-refused 5 18
+  pub no-room : value-answer base (bytes "properties A => 1;") 8 25 0 ≡ value-refused 5 18
   pub never-closed : value-in "properties A => \"1" 0 ≡ value-refused 8 16
 
 pub which : Which

@@ -12,7 +12,7 @@ use Rattle.aadl.specs.Limits.{Limits}
 use Rattle.aadl.specs.Kinds.{PROPERTIES-KW, #_}
 use Rattle.aadl.specs.Utf8.{ill-formed}
 use Rattle.aadl.specs.Tokens.{tokens, lengths, unclosed, token-word}
-use Rattle.aadl.specs.Symbols.{symbols, start-of}
+use Rattle.aadl.specs.Symbols.{symbols, start-of, raw-number}
 use Rattle.aadl.specs.Encoding.{room, words-of}
 use Rattle.aadl.specs.Reading.{events, pushed, too-deep}
 
@@ -31,7 +31,7 @@ text-checks limits text m =
     ∷ []
 
 -- .. and those of the section call alone, with room for n events. 5 and 6 go by reading order: of the events pushed before an opener
--- too many, one has no word left; else that opener is refused, before its Start event.
+-- too many, one has no two words left; else that opener is refused, before its Start event.
 abbrev pub section-checks : Limits → List ℕ → (n : ℕ) → List Check
 section-checks limits text n =
     let xs = symbols text in
@@ -80,4 +80,4 @@ abbrev pub token-words : List ℕ → List ℕ
 token-words text = map token-word (tokens text)
 
 abbrev pub event-words : Limits → List ℕ → List ℕ
-event-words limits text = words-of (events limits (symbols text))
+event-words limits text = words-of (raw-number text) 0 (events limits (symbols text))

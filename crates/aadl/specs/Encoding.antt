@@ -1,9 +1,9 @@
--- How an event becomes words and comes back from them, and how many words events have. Assumes nothing.
+-- How events become words and come back from them, and how many words they have. Assumes nothing.
 use Prim.Native.Nat.{ℕ, zero, suc, _+_, _*_, _/_, _%_, min}
-use mathlib.Core.List.{List, map}
+use mathlib.Core.List.{List, [], _∷_, map}
 use lib.ListN.{take}
 use Rattle.predictive.specs.Forest.{message, refusal}
-use Rattle.predictive.specs.Events.{Event, start, token, finish, error}
+use Rattle.predictive.specs.Events.{Event, start, token, finish, error, taken}
 use Rattle.aadl.specs.Limits.{most-events}
 use Rattle.aadl.specs.Tokens.{kind-in}
 
@@ -40,17 +40,30 @@ event-in w = event-by (class-in w) (kind-in w) (last-in w)
 
 -- MANY -----------------------------------------------------------------------------------------------------------------
 
--- For how many events so many lent words have room: "Of the lent event words only the first 32,768 are used."
-abbrev pub room : (lent : ℕ) → ℕ
-room n = min n most-events
-
--- How many words so many events have.
+-- 02's request Seven: "An event becomes two words". How many words so many events have.
 abbrev pub words-for : (events : ℕ) → ℕ
-words-for n = n
+words-for n = n * 2
 
-abbrev pub words-of : List Event → List ℕ
-words-of es = map event-word es
+-- For how many events so many lent words have room: 5 "now means that fewer than two words are left, and the 32,768 counts events."
+abbrev pub room : (lent : ℕ) → ℕ
+room n = min (n / 2) most-events
+
+-- ".. the present one and the raw number of the next untaken non-trivia token, or the token count at the end; a Token carries its own
+-- number." The words of events, of which the first comes after t taken tokens; `number` tells the raw number of each non-trivia token.
+abbrev pub words-of : (number : ℕ → ℕ) → (t : ℕ) → List Event → List ℕ
+words-of number t [] = []
+words-of number t (e ∷ es) = event-word e ∷ number t ∷ words-of number (t + taken (e ∷ [])) es
+
+-- The first words of events, two words each: a last word that stands alone is none.
+unfoldable pub first-words : (words : List ℕ) → List ℕ
+first-words [] = []
+first-words (w ∷ []) = []
+first-words (w ∷ v ∷ ws) = w ∷ first-words ws
+
+-- The events that words tell: their first words do.
+abbrev pub told-by : (words : List ℕ) → List Event
+told-by ws = map event-in (first-words ws)
 
 -- The events of the first words, so many events.
 abbrev pub events-in : (count : ℕ) → (words : List ℕ) → List Event
-events-in n ws = map event-in (take (words-for n) ws)
+events-in n ws = told-by (take (words-for n) ws)

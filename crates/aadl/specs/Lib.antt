@@ -13,5 +13,6 @@ pub mod Reading
 pub mod Answers
 pub mod Demand
 pub mod Records
+pub mod EventTokens
 pub mod Values
 pub mod Listing

@@ -10,6 +10,6 @@ base = record { bytes = 32768; openers = 64 }
 abbrev pub Allowed : Limits → Type 0
 Allowed limits = limits .bytes ≤ base .bytes
 
--- "Of the lent event words only the first 32,768 are used."
+-- 01: "Of the lent event words only the first 32,768 are used"; 02, Seven: "the 32,768 counts events."
 abbrev pub most-events : ℕ
 most-events = 32768

@@ -1,5 +1,6 @@
--- What the parser sees of a text: the kinds of its non-trivia tokens, with C-style literals marked, and where they start. Assumes nothing.
-use Prim.Native.Nat.{ℕ, _+_}
+-- What the parser sees of a text: the kinds of its non-trivia tokens, with C-style literals marked, where they start, and their numbers
+-- among all tokens. Assumes nothing.
+use Prim.Native.Nat.{ℕ, suc, _+_}
 use mathlib.Core.Bool.{Bool, _&&_, _||_, cond}
 use mathlib.Core.List.{List, [], _∷_, map}
 use lib.ListN.{length, getD}
@@ -42,6 +43,18 @@ symbols text = map (λ (p : Placed). p .symbol) (placed text 0 (tokens text))
 -- The start of the non-trivia token with a number, from 0; the text's length after the last.
 unfoldable pub start-of : List ℕ → ℕ → ℕ
 start-of text n = getD (map (λ (p : Placed). p .place) (placed text 0 (tokens text))) n (length text)
+
+-- 02's request Seven: "the raw number of the next untaken non-trivia token", its number among all tokens, trivia too. The raw numbers of the
+-- non-trivia tokens of those from number i on.
+unfoldable pub raw-numbers : (i : ℕ) → List Token → List ℕ
+raw-numbers i [] = []
+raw-numbers i (t ∷ ts) =
+    let rest = raw-numbers (suc i) ts in
+    cond (is-trivia (t .kind)) rest (i ∷ rest)
+
+-- The raw number of the non-trivia token with a number, from 0; "the token count at the end".
+unfoldable pub raw-number : List ℕ → ℕ → ℕ
+raw-number text n = getD (raw-numbers 0 (tokens text)) n (length (tokens text))
 
 -- The kinds of the non-trivia tokens.
 abbrev pub without-trivia : List Token → List ℕ

@@ -43,7 +43,7 @@ fn tell_answer(lent: &mut [usize], a: Answer)
     tell(lent, &five);
 }
 
-// The section call: tokens and events into lent words, the answer's numbers into lent numbers.
+// The section call: tokens, a word each, and events, two words each, into lent words, the answer's numbers into lent numbers.
 #[no_mangle]
 pub extern "C" fn gigboda_property_section(
     src: &[u8],

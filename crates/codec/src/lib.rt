@@ -2,12 +2,13 @@
 // asks here.
 
 ghost use mathlib.Core.Path.{_≡_};
-ghost use Prim.Native.Nat.{_+_, _*_, _/_, _<_};
+ghost use lib.ListN.{length, getD};
+ghost use Prim.Native.Nat.{_+_, _*_, _/_, _%_, _<_};
 ghost use Rattle.predictive.specs.Forest.{message};
 ghost use Rattle.predictive.specs.Events as E;
 ghost use Rattle.aadl.specs.Tokens as T;
 ghost use Rattle.aadl.specs.Tokens.{kind-in, length-in};
-ghost use Rattle.aadl.specs.Encoding.{event-word, class-in, last-in};
+ghost use Rattle.aadl.specs.Encoding.{event-word, class-in, last-in, first-words};
 
 // BOTH
 
@@ -42,8 +43,33 @@ pub fn length_in(w: u32) -> usize
 
 // EVENTS
 
+// Second words are below.
+const SECOND: usize = 4294967296;
+
 // Class × 16,777,216 + kind × 65,536 + last. Class 0 is a Start, 1 a Token, whose last is 1, 2 Finish, 3 an Error.
 const CLASS: u32 = 16777216;
+
+// How many events words tell, two words each.
+pub fn events_told(events: &[u32]) -> usize
+    ensures { λ r. ⌜ r ≡ length (first-words (now (events .entry))) ⌝ }
+{
+    events.len() / 2
+}
+
+// The first word of the event with a number, from 0.
+pub fn first_word(events: &[u32], number: usize) -> u32
+    requires { ⌜ number < length (first-words (now events)) ⌝ }
+    ensures { λ r. ⌜ r ≡ getD (first-words (now (events .entry))) number 0 ⌝ }
+{
+    events[number * 2]
+}
+
+// The second word of an event, where the next untaken token has a number.
+pub fn second_word(token: usize) -> u32
+    ensures { λ r. ⌜ r ≡ token % 4294967296 ⌝ }
+{
+    (token % SECOND) as u32
+}
 
 pub fn class_in(w: u32) -> u32
     ensures { λ r. ⌜ r ≡ class-in w ⌝ }

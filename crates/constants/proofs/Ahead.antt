@@ -13,7 +13,7 @@ use Rattle.aadl.specs.declared.Token.{Token}
 use Rattle.aadl.specs.Kinds.{ERROR, INTEGER-LIT, #_}
 use Rattle.aadl.specs.Bytes.{peek, is-digit, is-ident-continue, run}
 use Rattle.aadl.specs.Tokens.{kind-in, total, tokens, token-word, token-of, from-token, word-of}
-use Rattle.aadl.specs.Symbols.{symbol-of, C-STYLE, Placed, placed, symbols}
+use Rattle.aadl.specs.Symbols.{symbol-of, C-STYLE, Placed, placed, symbols, raw-numbers}
 use Rattle.aadl.specs.Answers.{token-words}
 use Rattle.aadl.proofs.TokenBounds.{token-cases, word-kind, mark-kind}
 use Rattle.aadl.proofs.TokenText.{Token-at, token-at}
@@ -21,7 +21,7 @@ use Rattle.parser.specs.declared.Parser.{Parser}
 use Rattle.parser.specs.Input.{input, standing, rest, ahead, nth}
 use Rattle.section.specs.Standing.{Passed}
 use Rattle.section.proofs.Places.{stood-symbols}
-use Rattle.section.proofs.WordsBack.{total-token-words}
+use Rattle.section.proofs.Seeking.{behind-total}
 use Rattle.constants.specs.Terms.{ahead-at}
 
 -- SYMBOLS --------------------------------------------------------------------------------------------------------------
@@ -47,7 +47,7 @@ module _ (text : List ℕ) (k : ℕ) (p : Parser) (x : Passed text k p) where
   unfolding symbols
   stands =
       let ps = placed text 0 (tokens text) in
-      stood-symbols text (token-words text) (drop k ps) (p .at) (p .byte) (x .behind .where-it-is) ∙ map-drop ps k
+      stood-symbols text (token-words text) (drop k ps) (drop k (raw-numbers 0 (tokens text))) (p .at) (p .byte) (x .behind .where-it-is) ∙ map-drop ps k
 
   -- the parser's current symbol
   pub passed-ahead : (ws : List ℕ) → ws ≡ token-words text → (c : ℕ) → c ≡ nth (input text ws) p 0 → c ≡ ahead-at text k
@@ -82,11 +82,6 @@ here (y ∷ xs) (suc k) x e n = here xs k x e n
 
 -- LITERALS -------------------------------------------------------------------------------------------------------------
 
-total-around : (ws : List ℕ) (i : ℕ) → total (take i ws) + total (drop i ws) ≡ total ws
-total-around ws zero = omega arith
-total-around [] (suc i) = refl
-total-around (w ∷ ws) (suc i) = omega (arith, total-around ws i)
-
 -- Only a number is of the kind INTEGER_LIT.
 digit-first : (bs : List ℕ) → token-of bs .kind ≡ # INTEGER-LIT → is-digit (peek bs 0) ≡ true
 unfolding word-of
@@ -119,6 +114,5 @@ literal-begins text k p h x e =
     let i = p .at in
     let w = word-there text i (p .byte) (ap ahead (stands text k p x) ∙ e) in
     let t = subst (λ (l : List ℕ). Token-at text l i) (append-nil ws) (token-at text [] i h (omega (arith, w .0, length-map (tokens text) token-word))) in
-    let start : total (take i ws) ≡ p .byte = omega (arith, total-around ws i, total-token-words text h, x .behind .where-it-is .tiles) in
-    let zero : total (take i ws) + 0 ≡ p .byte = omega (arith, start) in
+    let zero : total (take i ws) + 0 ≡ p .byte = omega (arith, behind-total text h k p (x .behind)) in
     ap is-digit (sym (getD-drop (total (take i ws)) text 0 0 ∙ ap (peek text) zero)) ∙ digit-first (from-token text ws i) (sym (t .kind) ∙ w .1)

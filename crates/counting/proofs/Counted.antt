@@ -108,18 +108,3 @@ module _ (b : Band) where
       let few : tally b (take (length ws) ws) ≤ n = omega (arith, ap (tally b) all, h) in
       let m = n - tally b (take (length ws) ws) in
       omega (arith, nth-behind ws n (length ws) (omega arith) few, nth-end ws m (length ws) (omega arith))
-
-  pub nth-at-most : (ws : List ℕ) (n : ℕ) → nth-within b n ws ≤ length ws
-  unfolding nth-within
-  nth-at-most [] n = omega arith
-  nth-at-most (w ∷ ws) zero = go (within-band b w) (nth-at-most ws zero)
-    where
-      go : (t : Bool) → nth-within b zero ws ≤ length ws → cond t 0 (suc (nth-within b zero ws)) ≤ suc (length ws)
-      go true h = omega arith
-      go false h = omega (arith, h)
-  nth-at-most (w ∷ ws) (suc n) = go (within-band b w) (nth-at-most ws n) (nth-at-most ws (suc n))
-    where
-      go : (t : Bool) → nth-within b n ws ≤ length ws → nth-within b (suc n) ws ≤ length ws →
-          suc (cond t (nth-within b n ws) (nth-within b (suc n) ws)) ≤ suc (length ws)
-      go true h k = omega (arith, h)
-      go false h k = omega (arith, k)

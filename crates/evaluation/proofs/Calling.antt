@@ -11,12 +11,13 @@ use Rattle.aadl.specs.declared.Answer.{Answer}
 use Rattle.aadl.specs.declared.ValueAnswer.{ValueAnswer}
 use Rattle.aadl.specs.declared.Limits.{Limits}
 use Rattle.aadl.specs.Limits.{Allowed}
+use Rattle.aadl.specs.Encoding.{words-for}
 use Rattle.aadl.specs.Answers.{section-answer, left-in, token-words, event-words}
 use Rattle.aadl.specs.Values.{with-value, value-refused}
 use Rattle.aadl.proofs.AnswerLaws.{left-by-refusal}
 use Rattle.aadl.proofs.ValueAnswers.{value-refused-first}
 use Rattle.section.proofs.Demands.{Called, every-answer-is-the-reading}
-use Rattle.section.proofs.Unrefused.{all-passed, passed-short, all-counted, token-words-counted, event-words-long, events-told}
+use Rattle.section.proofs.Unrefused.{all-passed, passed-short, all-counted, token-words-counted, event-words-counted}
 use Rattle.evaluation.specs.declared.Verdict.{Verdict}
 use Rattle.evaluation.specs.Verdicts.{Was-read, judged, Judged}
 use Rattle.evaluation.proofs.Demands.{Called-value}
@@ -42,13 +43,14 @@ module _ {limits : Limits} {text old last : List ℕ} {a : Answer} {ts es : List
       }
 
   module _ (z : a .number ≡ 0) where
-    pub was-read : Allowed limits → Was-read limits text (take (a .tokens) ts) (take (a .events) es) (a .taken)
+    pub was-read : Allowed limits → Was-read limits text (take (a .tokens) ts) (take (words-for (a .events)) es) (a .taken)
     was-read h =
         record {
           short = passed-short c z h;
           words = token-words-counted c z;
-          told = events-told c z;
-          few = omega (arith, event-words-long c z, all-passed c z .few);
+          pairs = event-words-counted c z;
+          deep = all-passed c z .deep;
+          few = omega (arith, all-passed c z .few);
           counted = ap (λ (x : Answer). x .taken) (all-counted c z);
         }
 

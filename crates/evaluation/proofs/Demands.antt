@@ -12,12 +12,13 @@ use Rattle.aadl.specs.Limits.{Allowed}
 use Rattle.aadl.specs.WordKinds.{Words-told}
 use Rattle.aadl.specs.NumberParts.{Numbers-told}
 use Rattle.aadl.specs.Answers.{left-in, token-words, event-words}
+use Rattle.aadl.specs.EventTokens.{Tokens-known}
 use Rattle.aadl.specs.Demand.{Read-as-derived}
 use Rattle.aadl.specs.Values.{value-answer, all-valued, Valued}
 use Rattle.aadl.proofs.Settled.{Settled}
 use Rattle.aadl.proofs.StringTokens.{Strings-closed}
 use Rattle.aadl.proofs.ValueAnswers.{all-value-checks, six-with-value, value-buffers, value-answer-is-settled, value-answered, value-read-as-derived, value-valued}
-use Rattle.section.proofs.Demands.{Called, every-word-is-told, every-string-is-closed, every-number-is-told}
+use Rattle.section.proofs.Demands.{Called, every-word-is-told, every-string-is-closed, every-number-is-told, every-event-knows-its-token}
 
 -- What the contract of the value call says of its answer a and the token and event words ts and es, where the words old and last were lent.
 pub record Called-value (limits : Limits) (text old last : List ℕ) (number : ℕ) (a : ValueAnswer) (ts es : List ℕ) : Type 0 where
@@ -61,3 +62,6 @@ module _ {limits : Limits} {text old last : List ℕ} {k : ℕ} {a : ValueAnswer
 
     pub every-value-number-is-told : Allowed limits → Numbers-told text (a .answer .tokens) ts
     every-value-number-is-told h = every-number-is-told section's h z
+
+    pub every-value-event-knows-its-token : Allowed limits → Tokens-known text (a .answer) ts es
+    every-value-event-knows-its-token h = every-event-knows-its-token section's h z

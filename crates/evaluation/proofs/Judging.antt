@@ -1,26 +1,30 @@
 -- What is found of an association's value, way by way: the text is not clean, has no such association, its first value is no constant, it
--- leaves the range, or it comes to a number. Each gives a right verdict: words tell whether the text is clean and where the association
--- starts, and the pass over its tokens tells its constant's outcome. Assumes nothing.
-use Prim.Native.Nat.{ℕ, suc, _≤_, _<_}
+-- leaves the range, or it comes to a number. Each gives a right verdict: words tell whether the text is clean and at which token the
+-- association starts, and the pass over its tokens tells its constant's outcome. Assumes nothing.
+use Prim.Native.Nat.{ℕ, suc, _+_, _≤_, _<_}
 use native.Mathlib.Omega.{arith}
 use mathlib.Core.Path.{_≡_, refl, sym, ap, _∙_}
 use mathlib.Core.Bool.{Bool, true, false, not, _&&_}
-use mathlib.Core.List.{List, map}
+use mathlib.Core.List.{List, [], map, append-nil}
 use mathlib.Core.Option.{Option, none, some}
 use lib.ListN.{length, getD, take, drop, length-map, List·getD-map}
 use lib.Dec.{ltb, eqb}
 use borrow.Author.Tests.{ltb-true, ltb-false, le-leb, lt-leb, eq-eqb, ne-eqb}
-use Rattle.predictive.specs.Events.{Event, erring, any-fault}
+use Rattle.predictive.specs.Events.{Event, taken, erring, any-fault}
 use Rattle.predictive.proofs.Tests.{never, or-neither, or-true-l, or-true-r}
 use Rattle.aadl.specs.declared.Answer.{Answer}
 use Rattle.aadl.specs.declared.Limits.{Limits}
-use Rattle.aadl.specs.Symbols.{shown, symbols, kinds, start-of}
-use Rattle.aadl.specs.Encoding.{event-in}
-use Rattle.aadl.specs.Reading.{reads-cleanly}
-use Rattle.aadl.specs.Answers.{token-words}
+use Rattle.aadl.specs.Tokens.{tokens, token-word}
+use Rattle.aadl.specs.Symbols.{shown, symbols, kinds, start-of, raw-number}
+use Rattle.aadl.specs.Encoding.{event-word, event-in, words-for, words-of}
+use Rattle.aadl.specs.Reading.{events, reads-cleanly}
 use Rattle.aadl.specs.Values.{Constant, Outcome, exact, beyond, in-range, value, number-at, Association, association, nth-association, text-associations, with-value, value-refused}
 use Rattle.aadl.proofs.Lists.{each-at}
 use Rattle.aadl.proofs.SymbolLaws.{symbols-show-kinds}
+use Rattle.aadl.proofs.RawNumbers.{raw-number-counted, tokens-within-text}
+use Rattle.aadl.proofs.EventPairs.{length-words-of, first-words-of}
+use Rattle.aadl.proofs.EventWords.{words-tell-events}
+use Rattle.aadl.proofs.EventTokens.{token-named-is}
 use Rattle.aadl.proofs.ValueAnswers.{lacks-it, refused-lacking, refused-no-constant, refused-beyond, value-passed}
 use Rattle.wholes.specs.Integers.{integer}
 use Rattle.section.proofs.CleanLaws.{solid-kinds}
@@ -33,13 +37,14 @@ use Rattle.constants.specs.Terms.{Held, held-exact, held-beyond, Value-read, no
 use Rattle.constants.proofs.Sums.{outcome}
 use Rattle.constants.proofs.FirstValues.{Right}
 use Rattle.evaluation.specs.declared.Verdict.{Verdict}
-use Rattle.evaluation.specs.Words.{solid, starting, taking, failing}
+use Rattle.evaluation.specs.Words.{solid, starting, failing}
 use Rattle.evaluation.specs.Starts.{starts-in}
 use Rattle.evaluation.specs.Verdicts.{Was-read, judged, Judged}
 use Rattle.evaluation.proofs.AssociationStarts.{text-starts, text-valued}
-use Rattle.evaluation.proofs.Seeking.{token-words-small, tally-solid}
+use Rattle.evaluation.proofs.WordBands.{number-starts-not, number-fails-not}
+use Rattle.evaluation.proofs.FirstWords.{tally-first, nth-first}
 use Rattle.evaluation.proofs.StartWords.{starts-counted, start-found}
-use Rattle.evaluation.proofs.CleanWords.{no-error-counted}
+use Rattle.evaluation.proofs.CleanWords.{no-error-counted, solid-counted}
 
 -- VERDICTS -------------------------------------------------------------------------------------------------------------
 
@@ -114,99 +119,147 @@ value-fits text f t x c b = near text (some-value text x c .held) b .fits
 
 -- WAY BY WAY -----------------------------------------------------------------------------------------------------------
 
-module _ {limits : Limits} {text toks ws : List ℕ} {count : ℕ} (x : Was-read limits text toks ws count) (k : ℕ) where
-  abbrev found : List Association
-  found = text-associations limits text
+module _ {limits : Limits} {text toks ws : List ℕ} {count : ℕ} (x : Was-read limits text toks ws count) where
+  abbrev es : List Event
+  es = events limits (symbols text)
 
-  abbrev its : Association
-  its = nth-association k found
+  -- the events' first words, which tell them
+  abbrev firsts : List ℕ
+  firsts = map event-word es
+
+  tells : map event-in firsts ≡ es
+  tells = ap (map event-in) (sym (first-words-of (raw-number text) 0 es)) ∙ words-tell-events limits text (x .deep) (x .few)
+
+  -- There are few words, and a second word is no larger than the token count.
+  pub few-tokens : length toks < 65536
+  few-tokens = omega (arith, ap length (x .words), length-map (tokens text) token-word, tokens-within-text text, x .short)
+
+  pub few-events : length ws ≡ words-for (length es)
+  few-events = ap length (x .pairs) ∙ length-words-of (raw-number text) 0 es
+
+  pub number-counted : (n : ℕ) → raw-number text n ≤ length toks
+  number-counted n = omega (arith, raw-number-counted text n, ap length (x .words), length-map (tokens text) token-word)
+
+  small : (n : ℕ) → raw-number text n < 65536
+  small n = omega (arith, number-counted n, few-tokens)
 
   -- What is counted tells whether the text is clean.
   pub clean-counted : (eqb (tally failing ws) 0 && eqb count (tally solid toks)) ≡ reads-cleanly limits (symbols text)
   unfolding reads-cleanly
   clean-counted =
       let many : length (kinds text) ≡ length (symbols text) = sym (ap length (symbols-show-kinds text)) ∙ length-map (symbols text) shown in
-      let tokens = ap (tally solid) (x .words) ∙ tally-solid (token-words text) (token-words-small text (x .short)) ∙ solid-kinds text (x .short) ∙ many in
-      let errors = no-error-counted ws ∙ ap (λ (es : List Event). not (erring any-fault es)) (x .told) in
+      let tokens = ap (tally solid) (x .words) ∙ solid-counted text (x .short) ∙ solid-kinds text (x .short) ∙ many in
+      let failed = ap (tally failing) (x .pairs) ∙ tally-first failing (raw-number text) (λ n. number-fails-not (raw-number text n) (small n)) 0 es in
+      let errors = ap (λ (n : ℕ). eqb n 0) failed ∙ no-error-counted firsts ∙ ap (λ (l : List Event). not (erring any-fault l)) tells in
       λ i. errors i && eqb (x .counted i) (tokens i)
 
-  -- Refusal 9 at the text's length, whatever words were lent.
-  lacking : (v : Verdict) → v .number ≡ 9 → v .place ≡ length text → lacks-it limits text 0 0 k ≡ true → Judged limits text k v
-  lacking v e f h = record { decides = λ m n z. refused-lacking limits text m n k z h ∙ sym (refuses v 8 (length text) e f _) }
+  module _ (k : ℕ) where
+    abbrev found : List Association
+    found = text-associations limits text
 
-  pub judged-unclean : (v : Verdict) → v .number ≡ 9 → v .place ≡ length text → reads-cleanly limits (symbols text) ≡ false → Judged limits text k v
-  judged-unclean v e f c = lacking v e f (or-true-l (not (reads-cleanly limits (symbols text))) _ (ap not c))
+    abbrev its : Association
+    its = nth-association k found
 
-  module _ (c : reads-cleanly limits (symbols text) ≡ true) where
-    all-starts : map (λ (a : Association). a .first) found ≡ starts-in 0 (map event-in ws)
-    all-starts = text-starts limits text c ∙ ap (starts-in 0) (sym (x .told))
+    -- Refusal 9 at the text's length, whatever words were lent.
+    lacking : (v : Verdict) → v .number ≡ 9 → v .place ≡ length text → lacks-it limits text 0 0 k ≡ true → Judged limits text k v
+    lacking v e f h = record { decides = λ m n z. refused-lacking limits text m n k z h ∙ sym (refuses v 8 (length text) e f _) }
 
-    as-many : length found ≡ tally starting ws
-    as-many = sym (length-map found (λ (a : Association). a .first)) ∙ ap length all-starts ∙ starts-counted ws 0
+    pub judged-unclean : (v : Verdict) → v .number ≡ 9 → v .place ≡ length text → reads-cleanly limits (symbols text) ≡ false → Judged limits text k v
+    judged-unclean v e f c = lacking v e f (or-true-l (not (reads-cleanly limits (symbols text))) _ (ap not c))
 
-    pub judged-absent : (v : Verdict) → v .number ≡ 9 → v .place ≡ length text → length ws ≤ nth-within starting k ws → Judged limits text k v
-    judged-absent v e f h = lacking v e f (or-true-r (not (reads-cleanly limits (symbols text))) _ (le-leb (length found) k (none-left (ltb k (tally starting ws)) refl)))
-      where
-        none-left : (t : Bool) → ltb k (tally starting ws) ≡ t → length found ≤ k
-        none-left true l = absurd (omega (arith, nth-among starting ws k (ltb-true k (tally starting ws) l), h))
-        none-left false l = omega (arith, as-many, ltb-false k (tally starting ws) l)
+    -- the event of the association's Start, and its first word among all words
+    abbrev start : ℕ
+    start = nth-within starting k firsts
 
-    -- The association's Start is there.
-    module _ (h : nth-within starting k ws < length ws) where
-      there : k < length found
-      there = go (ltb k (tally starting ws)) refl
+    start-word : nth-within starting k ws ≡ words-for start
+    start-word =
+        ap (nth-within starting k) (x .pairs) ∙ nth-first starting (raw-number text) (λ n. number-starts-not (raw-number text n) (small n)) 0 k es
+
+    module _ (c : reads-cleanly limits (symbols text) ≡ true) where
+      all-starts : map (λ (a : Association). a .first) found ≡ starts-in 0 (map event-in firsts)
+      all-starts = text-starts limits text c ∙ ap (starts-in 0) (sym tells)
+
+      as-many : length found ≡ tally starting firsts
+      as-many = sym (length-map found (λ (a : Association). a .first)) ∙ ap length all-starts ∙ starts-counted firsts 0
+
+      pub judged-absent : (v : Verdict) → v .number ≡ 9 → v .place ≡ length text → length ws ≤ nth-within starting k ws → Judged limits text k v
+      judged-absent v e f h =
+          lacking v e f (or-true-r (not (reads-cleanly limits (symbols text))) _ (le-leb (length found) k (none-left (ltb k (tally starting firsts)) refl)))
         where
-          go : (t : Bool) → ltb k (tally starting ws) ≡ t → k < length found
-          go true l = omega (arith, as-many, ltb-true k (tally starting ws) l)
-          go false l = absurd (omega (arith, nth-none starting ws k (ltb-false k (tally starting ws) l), h))
+          none-left : (t : Bool) → ltb k (tally starting firsts) ≡ t → length found ≤ k
+          none-left true l =
+              absurd (omega (arith, nth-among starting firsts k (ltb-true k (tally starting firsts) l), h, start-word, few-events, length-map es event-word))
+          none-left false l = omega (arith, as-many, ltb-false k (tally starting firsts) l)
 
-      nothing-lacks : lacks-it limits text 0 0 k ≡ false
-      nothing-lacks = or-neither (not (reads-cleanly limits (symbols text))) _ (ap not c) (lt-leb (length found) k there)
+      -- The association's Start is there.
+      module _ (h : nth-within starting k ws < length ws) where
+        started : start < length es
+        started = omega (arith, h, start-word, few-events)
 
-      pub first-is : tally taking (take (nth-within starting k ws) ws) ≡ its .first
-      first-is =
-          let counted = start-found ws k 0 0 h in
-          let by-starts = ap (λ (l : List ℕ). getD l k 0) all-starts in
-          let by-number = List·getD-map (λ (a : Association). a .first) found k (association 0 none) in
-          omega (arith, counted, by-starts, by-number)
+        there : k < length found
+        there = go (ltb k (tally starting firsts)) refl
+          where
+            go : (t : Bool) → ltb k (tally starting firsts) ≡ t → k < length found
+            go true l = omega (arith, as-many, ltb-true k (tally starting firsts) l)
+            go false l = absurd (omega (arith, nth-none starting firsts k (ltb-false k (tally starting firsts) l), started, length-map es event-word))
 
-      -- What the pass gives from there is the outcome of its constant.
-      module _ (f : ℕ) (e : f ≡ its .first) (t : Term) (p : First-value text f t) where
-        abbrev from : ℕ → Option Outcome
-        from j = past-arrow (number-at text) j (drop j (symbols text))
+        -- The word behind it names the association's first token.
+        pub second-there : nth-within starting k ws + 1 < length ws
+        second-there = omega (arith, started, start-word, few-events)
 
-        right : outcome (its .constant) ≡ from f
-        right = each-at (Right (number-at text) (symbols text)) found k (association 0 none) there (text-valued limits text c) ∙ ap from (sym e)
+        first-is : taken (take start es) ≡ its .first
+        first-is =
+            let counted = start-found firsts k 0 0 (omega (arith, started, length-map es event-word)) in
+            let by-starts = ap (λ (l : List ℕ). getD l k 0) all-starts in
+            let by-number = List·getD-map (λ (a : Association). a .first) found k (association 0 none) in
+            omega (arith, counted, ap (λ (l : List Event). taken (take start l)) tells, by-starts, by-number)
 
-        pub judged-no-constant : (v : Verdict) → v .number ≡ 9 → v .place ≡ start-of text f → t .constant ≡ false → Judged limits text k v
-        judged-no-constant v n q o =
-            let none-there = no-constant (its .constant) (right ∙ no-value text p o) in
-            record {
-              decides = λ m r z.
-                  refused-no-constant limits text m r k z nothing-lacks none-there ∙ sym (refuses v 8 (start-of text (its .first)) n (q ∙ ap (start-of text) e) _);
-            }
+        pub second-is : getD ws (nth-within starting k ws + 1) 0 ≡ raw-number text (its .first)
+        second-is =
+            (λ i. getD (x .pairs i) (start-word i + 1) 0)
+            ∙ ap (λ (l : List ℕ). getD l (words-for start + 1) 0) (sym (append-nil (words-of (raw-number text) 0 es)))
+            ∙ token-named-is (raw-number text) 0 es [] start started
+            ∙ ap (raw-number text) (omega (arith, first-is))
 
-        module _ (o : t .constant ≡ true) where
-          read : Read-value text (from f) t
-          read = some-value text p o
+        nothing-lacks : lacks-it limits text 0 0 k ≡ false
+        nothing-lacks = or-neither (not (reads-cleanly limits (symbols text))) _ (ap not c) (lt-leb (length found) k there)
 
-          comes : Comes (its .constant) (read .what)
-          comes = comes-to (its .constant) (read .what) (right ∙ read .it-is)
+        -- What the pass gives from there is the outcome of its constant.
+        module _ (t : Term) (p : First-value text (its .first) t) where
+          abbrev given-there : Option Outcome
+          given-there = past-arrow (number-at text) (its .first) (drop (its .first) (symbols text))
 
-          pub judged-beyond : (v : Verdict) → v .number ≡ 10 → v .place ≡ t .outcome .place → t .outcome .beyond ≡ true → Judged limits text k v
-          judged-beyond v n q b =
-              let y = far text (read .held) b in
+          right : outcome (its .constant) ≡ given-there
+          right = each-at (Right (number-at text) (symbols text)) found k (association 0 none) there (text-valued limits text c)
+
+          pub judged-no-constant : (v : Verdict) → v .number ≡ 9 → v .place ≡ start-of text (its .first) → t .constant ≡ false → Judged limits text k v
+          judged-no-constant v n q o =
+              let none-there = no-constant (its .constant) (right ∙ no-value text p o) in
               record {
-                decides = λ m r z.
-                    refused-beyond limits text m r k z nothing-lacks (comes .constant) (comes .it-is) (y .token) (comes .comes ∙ y .it-is)
-                    ∙ sym (refuses v 9 (start-of text (y .token)) n (q ∙ y .place) _);
+                decides = λ m r z. refused-no-constant limits text m r k z nothing-lacks none-there ∙ sym (refuses v 8 (start-of text (its .first)) n q _);
               }
 
-          pub judged-valued : (v : Verdict) → v .number ≡ 0 → v .value ≡ integer (t .outcome .whole) → t .outcome .beyond ≡ false → Judged limits text k v
-          judged-valued v n q b =
-              let y = near text (read .held) b in
-              record {
-                decides = λ m r z.
-                    value-passed limits text m r k z nothing-lacks (comes .constant) (comes .it-is) (v .value) (comes .comes ∙ y .it-is ∙ ap exact (sym q))
-                    ∙ sym (values v n _);
-              }
+          module _ (o : t .constant ≡ true) where
+            read : Read-value text given-there t
+            read = some-value text p o
+
+            comes : Comes (its .constant) (read .what)
+            comes = comes-to (its .constant) (read .what) (right ∙ read .it-is)
+
+            pub judged-beyond : (v : Verdict) → v .number ≡ 10 → v .place ≡ t .outcome .place → t .outcome .beyond ≡ true → Judged limits text k v
+            judged-beyond v n q b =
+                let y = far text (read .held) b in
+                record {
+                  decides = λ m r z.
+                      refused-beyond limits text m r k z nothing-lacks (comes .constant) (comes .it-is) (y .token) (comes .comes ∙ y .it-is)
+                      ∙ sym (refuses v 9 (start-of text (y .token)) n (q ∙ y .place) _);
+                }
+
+            pub judged-valued : (v : Verdict) → v .number ≡ 0 → v .value ≡ integer (t .outcome .whole) → t .outcome .beyond ≡ false → Judged limits text k v
+            judged-valued v n q b =
+                let y = near text (read .held) b in
+                record {
+                  decides = λ m r z.
+                      value-passed limits text m r k z nothing-lacks (comes .constant) (comes .it-is) (v .value) (comes .comes ∙ y .it-is ∙ ap exact (sym q))
+                      ∙ sym (values v n _);
+                }

@@ -1,6 +1,6 @@
 pub mod AssociationStarts
 pub mod WordBands
-pub mod Seeking
+pub mod FirstWords
 pub mod StartWords
 pub mod CleanWords
 pub mod Judging

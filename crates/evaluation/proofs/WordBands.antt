@@ -1,5 +1,6 @@
 -- Where a word lies, by what it stands for: a word of a text's token is below 2 to the 24th, so that its kind tells whether it is a
--- trivia's; an event word's class and kind tell whether it is an association's Start, a Token or an Error. Assumes nothing.
+-- trivia's; the class and kind in an event's first word tell whether it is an association's Start or an Error; a second word is neither.
+-- Assumes nothing.
 use Prim.Native.Nat.{ℕ, _≤_, _<_}
 use native.Mathlib.Omega.{arith}
 use mathlib.Core.Path.{_≡_, refl, ap}
@@ -10,7 +11,7 @@ use Rattle.aadl.specs.Tokens.{kind-in}
 use Rattle.aadl.specs.Symbols.{is-trivia}
 use Rattle.aadl.specs.Encoding.{class-in}
 use Rattle.counting.specs.Bands.{within-band}
-use Rattle.evaluation.specs.Words.{solid, starting, taking, failing}
+use Rattle.evaluation.specs.Words.{solid, starting, failing}
 
 -- ANY BAND -------------------------------------------------------------------------------------------------------------
 
@@ -70,14 +71,15 @@ starts-by-kind w c = go (eqb (kind-in w) 170) refl
 pub starts-not : (w : ℕ) → 1 ≤ class-in w → within-band starting w ≡ false
 starts-not w c = inside-not 11141120 11206656 w (λ h. omega (arith, c))
 
-pub takes : (w : ℕ) → class-in w ≡ 1 → within-band taking w ≡ true
-takes w c = inside 16777216 33554432 w (omega (arith, c)) (omega (arith, c))
-
-pub takes-not : (w : ℕ) → (class-in w ≡ 1 → ⊥) → within-band taking w ≡ false
-takes-not w c = inside-not 16777216 33554432 w (λ h. omega (arith, c, h))
-
 pub fails : (w : ℕ) → 3 ≤ class-in w → within-band failing w ≡ true
 fails w c = outside-not 0 50331648 w (λ h. omega (arith, c))
 
 pub fails-not : (w : ℕ) → class-in w < 3 → within-band failing w ≡ false
 fails-not w c = outside 0 50331648 w (omega arith) (omega (arith, c))
+
+-- A second word is a number of tokens.
+pub number-starts-not : (n : ℕ) → n < 65536 → within-band starting n ≡ false
+number-starts-not n h = inside-not 11141120 11206656 n (λ g. omega (arith, h, g))
+
+pub number-fails-not : (n : ℕ) → n < 65536 → within-band failing n ≡ false
+number-fails-not n h = fails-not n (omega (arith, h))

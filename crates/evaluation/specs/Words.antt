@@ -14,12 +14,9 @@ band f t i = record { from = f; to = t; inside = i }
 abbrev pub solid : Band
 solid = band (token-word (token (# WHITESPACE) 0)) (token-word (token (suc (# COMMENT)) 0)) false
 
--- event words: Starts of an association, Tokens, and Errors
+-- first words of events: Starts of an association, and Errors
 abbrev pub starting : Band
 starting = band (event-word (E.start (# PROPERTY-ASSOCIATION) 0)) (event-word (E.start (suc (# PROPERTY-ASSOCIATION)) 0)) true
-
-abbrev pub taking : Band
-taking = band 16777216 33554432 true
 
 abbrev pub failing : Band
 failing = band 0 50331648 false

@@ -1,5 +1,6 @@
 // The value call: what the section call does, and the value of an association. Words are counted and found by where they lie among all
-// words; only the association's own tokens are gone over one by one.
+// words, second words of events too, which are below all that is looked for; the second word of an association's Start is its first token.
+// Only the association's own tokens are gone over one by one.
 
 use aadl::Limits;
 use aadl::ValueAnswer;
@@ -22,10 +23,11 @@ use syntax_kind::WHITESPACE;
 use wholes::to_i64;
 ghost use mathlib.Core.Path.{_≡_};
 ghost use mathlib.Core.Bool.{_&&_};
-ghost use Prim.Native.Nat.{_<_};
+ghost use Prim.Native.Nat.{ℕ, _≤_, _<_};
 ghost use lib.ListN.{length};
 ghost use lib.Dec.{eqb};
 ghost use Rattle.aadl.specs.Limits.{base, Allowed};
+ghost use Rattle.aadl.specs.Symbols.{raw-number};
 ghost use Rattle.aadl.specs.Answers.{token-words, event-words, left-in};
 ghost use Rattle.aadl.specs.Demand.{Read-as-derived};
 ghost use Rattle.aadl.specs.Values.{value-answer, Valued};
@@ -56,25 +58,12 @@ fn solid() -> Band
     }
 }
 
-// Event words: Starts of an association.
+// First words of events: Starts of an association.
 fn starting() -> Band
     ensures { λ r. ⌜ r ≡ W.starting ⌝ }
 {
     let from = start_word(PROPERTY_ASSOCIATION);
     let to = start_word(PROPERTY_ASSOCIATION + 1);
-    Band {
-        from,
-        to,
-        inside: true,
-    }
-}
-
-// Tokens.
-fn taking() -> Band
-    ensures { λ r. ⌜ r ≡ W.taking ⌝ }
-{
-    let from = class_start(1);
-    let to = class_start(2);
     Band {
         from,
         to,
@@ -104,12 +93,11 @@ fn clean(toks: &[u32], events: &[u32], taken: usize) -> bool
     (errors == 0) & (taken == tokens)
 }
 
-// A parser at the non-trivia token with a number, from 0; at the text's end where there is none.
-fn seek(text: &[u8], toks: &[u32], number: usize) -> Parser
-    requires { ⌜ (length (now text) < 65536) × (now toks ≡ token-words (now text)) ⌝ }
-    ensures { λ r. ⌜ Passed (now (text .entry)) number r ⌝ }
+// A parser at the token with a raw number; at the text's end where that is the token count.
+fn seek(text: &[u8], toks: &[u32], at: usize) -> Parser
+    requires { ⌜ (length (now text) < 65536) × (now toks ≡ token-words (now text)) × (at ≤ length (now toks)) ⌝ }
+    ensures { λ r. ⌜ ((n : ℕ) → at ≡ raw-number (now (text .entry)) n → Passed (now (text .entry)) n r) ⌝ }
 {
-    let at = find(toks, solid(), number);
     let byte = sum_of_lengths(&toks[..at]);
     Parser {
         at,
@@ -145,7 +133,7 @@ fn judge(text: &[u8], toks: &[u32], events: &[u32], taken: usize, number: usize)
     if events.len() <= at {
         return refusal(9, text.len());
     }
-    let first = count(&events[..at], taking());
+    let first = events[at + 1] as usize;
     let p = seek(text, toks, first);
     let t = first_value(text, toks, p);
     if !t.constant {
@@ -191,7 +179,7 @@ pub fn association_value_within(
     let v = judge(
         src,
         &tokens[..a.tokens],
-        &events[..a.events],
+        &events[..a.events * 2],
         a.taken,
         number,
     );

@@ -14,7 +14,7 @@ use Rattle.aadl.specs.declared.Answer.{Answer}
 use Rattle.aadl.specs.declared.Limits.{Limits}
 use Rattle.aadl.specs.Limits.{Allowed}
 use Rattle.aadl.specs.Answers.{section-checks, all-answered, refused, section-answer}
-use Rattle.aadl.specs.Encoding.{room}
+use Rattle.aadl.specs.Encoding.{room, words-for, first-words}
 use Rattle.aadl.specs.Listing.{lent-tokens, lent-events, listing-answer, listing}
 use Rattle.aadl.proofs.Lists.{Each}
 use Rattle.aadl.proofs.AnswerLaws.{too-long}
@@ -34,7 +34,7 @@ use Rattle.listing.proofs.PieceLaws.{piece-more, pieces, pieces-are-all
 
 -- The lines of an answer and the words that it counts, from a position on.
 abbrev pub answer-lines : (text ts es : List ℕ) → Answer → Position → List (List ℕ)
-answer-lines text ts es a k = first-line a ∷ lines-from (input text (take (a .tokens) ts)) 0 (take (a .events) es) k
+answer-lines text ts es a k = first-line a ∷ lines-from (input text (take (a .tokens) ts)) 0 (first-words (take (words-for (a .events)) es)) k
 
 module _ {limits : Limits} {text old last : List ℕ} {a : Answer} {ts es : List ℕ} (c : Called limits text old last a ts es) (h : Allowed limits) (m : length old ≡ lent-tokens) (n : length last ≡ lent-events) where
   answer-is : a ≡ listing-answer limits text
@@ -46,14 +46,14 @@ module _ {limits : Limits} {text old last : List ℕ} {a : Answer} {ts es : List
       let t = counted-tokens c x in
       let w = counted-events c x in
       let b = e ∙ ap (λ (l : List ℕ). begin (input text l)) t in
-      (λ i. f i ++ joined (lines-from (input text (t i)) 0 (w i) (b i)))
+      (λ i. f i ++ joined (lines-from (input text (t i)) 0 (first-words (w i)) (b i)))
       ∙ listing-of-answer limits text h (ap (λ (r : Answer). r .number) (sym answer-is ∙ x .counts))
 
   refused-listed : (k : Position) → Refused-first five-numbers (checks limits text old last) a (buffers limits text old last ts es) → joined (answer-lines text ts es a k) ≡ listing limits text
-  unfolding lines-from
+  unfolding lines-from first-words
   refused-listed k x =
       let z : a .number ≡ 0 → ⊥ = λ e. x .not-zero (sym (ap (λ (r : Answer). r .number) (x .no-counts)) ∙ e) in
-      (λ i. first-line a ++ joined (lines-from (input text (take (a .tokens) ts)) 0 (take (x .no-counts i .events) es) k))
+      (λ i. first-line a ++ joined (lines-from (input text (take (a .tokens) ts)) 0 (first-words (take (words-for (x .no-counts i .events)) es)) k))
       ∙ append-nil (first-line a) ∙ first-is-refusal a z
       ∙ sym (listing-is limits text a answer-is ∙ rw (ne-eqb (a .number) 0 z) refl)
 
@@ -95,7 +95,7 @@ left-some : (text ts es : List ℕ) (l : Listing) → Each Some (left text ts es
 unfolding left
 left-some text ts es l =
     let inp = input (take (l .bytes) text) (take (l .answer .tokens) ts) in
-    let ws = drop (l .event) (take (l .answer .events) es) in
+    let ws = drop (l .event) (first-words (take (words-for (l .answer .events)) es)) in
     go (l .begun) (lines-from inp (l .event) ws (l .position)) (lines-some inp (l .event) ws (l .position))
   where
     go : (t : Bool) (ls : List (List ℕ)) → Each Some ls → Each Some (cond t ls (first-line (l .answer) ∷ ls))

@@ -13,12 +13,13 @@ use borrow.Author.Tests.{eq-eqb, ne-eqb}
 use Rattle.predictive.specs.Events.{Event, start, token, finish, error, taken}
 use Rattle.aadl.specs.declared.Limits.{Limits}
 use Rattle.aadl.specs.Limits.{Allowed}
-use Rattle.aadl.specs.Symbols.{is-trivia, symbols, start-of}
-use Rattle.aadl.specs.Encoding.{event-word, event-by, event-in, class-in, last-in}
+use Rattle.aadl.specs.Symbols.{is-trivia, symbols, start-of, raw-number}
+use Rattle.aadl.specs.Encoding.{event-word, event-by, event-in, class-in, last-in, first-words}
 use Rattle.aadl.specs.Reading.{events}
 use Rattle.aadl.specs.Answers.{token-words, event-words}
 use Rattle.aadl.specs.Listing.{event-lines, lent-tokens, lent-events, listing-answer, listing}
 use Rattle.aadl.proofs.Characters.{Well-formed}
+use Rattle.aadl.proofs.EventPairs.{first-words-of}
 use Rattle.aadl.proofs.EventWords.{words-tell-events}
 use Rattle.aadl.proofs.AnswerDerived.{answered-whole}
 use Rattle.parser.specs.declared.Parser.{Parser}
@@ -154,11 +155,14 @@ module _ (text : List ℕ) (short : length text < 65536) where
 
 -- The header and the lines of an answer's event words, from the first position on, are the listing.
 pub listing-of-answer : (limits : Limits) (text : List ℕ) → Allowed limits → listing-answer limits text .number ≡ 0 →
-    header ++ joined (lines-from (input text (token-words text)) 0 (event-words limits text) (begin (input text (token-words text)))) ≡ listing limits text
+    header ++ joined (lines-from (input text (token-words text)) 0 (first-words (event-words limits text)) (begin (input text (token-words text)))) ≡ listing limits text
 listing-of-answer limits text h z =
     let x = answered-whole limits text lent-tokens lent-events z in
     let es = events limits (symbols text) in
     let short : length text < 65536 = omega (arith, x .short, h) in
-    let l = lines-are text short (x .formed) es 0 0 (begin (input text (token-words text))) (begin-stands text short) (words-tell-events limits text (x .deep) (omega (arith, x .few))) in
-    ap (λ (ls : List ℕ). header ++ ls) l
+    let own : first-words (event-words limits text) ≡ map event-word es = first-words-of (raw-number text) 0 es in
+    let tells = sym (ap (map event-in) own) ∙ words-tell-events limits text (x .deep) (omega (arith, x .few)) in
+    let l = lines-are text short (x .formed) es 0 0 (begin (input text (token-words text))) (begin-stands text short) tells in
+    ap (λ (ws : List ℕ). header ++ joined (lines-from (input text (token-words text)) 0 ws (begin (input text (token-words text))))) own
+    ∙ ap (λ (ls : List ℕ). header ++ ls) l
     ∙ sym (listing-is limits text (listing-answer limits text) refl ∙ rw (eq-eqb _ 0 z) refl)

@@ -9,7 +9,7 @@ use lib.Dec.{leb}
 use Rattle.aadl.specs.declared.Answer.{Answer}
 use Rattle.aadl.specs.declared.Limits.{Limits}
 use Rattle.aadl.specs.Limits.{base}
-use Rattle.aadl.specs.Encoding.{words-for}
+use Rattle.aadl.specs.Encoding.{words-for, first-words}
 use Rattle.aadl.specs.Listing.{listing}
 use Rattle.parser.specs.Input.{input}
 use Rattle.writing.specs.Written.{Wrote}
@@ -36,7 +36,7 @@ unfoldable pub left : (text tokens events : List ℕ) → Listing → List (List
 left text ts es l =
     let a = l .answer in
     let inp = input (take (l .bytes) text) (take (a .tokens) ts) in
-    let lines = lines-from inp (l .event) (drop (l .event) (take (words-for (a .events)) es)) (l .position) in
+    let lines = lines-from inp (l .event) (drop (l .event) (first-words (take (words-for (a .events)) es))) (l .position) in
     cond (l .begun) lines (first-line a ∷ lines)
 
 -- A listing before its first line: of the first bytes, as many as were read, with the answer of the section call and the token words that it left.

@@ -20,7 +20,7 @@ position-at inp p s = record { parser = p; spot = spot-after (inp .text) s (p .b
 unfoldable pub begin : Input → Position
 begin inp = position-at inp (new inp 0) first
 
--- A Token's word takes the token where the parser stands.
+-- A Token's first word takes the token where the parser stands.
 abbrev pub is-token : (word : ℕ) → Bool
 is-token w = eqb (class-in w) 1
 
@@ -30,7 +30,7 @@ behind-token inp p = pass inp (state p []) .parser
 unfoldable pub step : Input → (word : ℕ) → Position → Position
 step inp w c = cond (is-token w) (position-at inp (behind-token inp (c .parser)) (c .spot)) c
 
--- The lines of words, from a position on; the first has a number.
+-- The lines of events by their first words, from a position on; the first has a number.
 unfoldable pub lines-from : Input → (number : ℕ) → (words : List ℕ) → Position → List (List ℕ)
 lines-from inp n [] c = []
 lines-from inp n (w ∷ ws) c = line-of n w (c .spot .line) (c .spot .column) ∷ lines-from inp (suc n) ws (step inp w c)

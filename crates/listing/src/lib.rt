@@ -3,6 +3,8 @@
 use aadl::Answer;
 use aadl::Limits;
 use codec::class_in;
+use codec::events_told;
+use codec::first_word;
 use lexer::BASE;
 use lines::put_first;
 use lines::put_line;
@@ -18,6 +20,7 @@ ghost use Prim.Native.Nat.{_-_, _≤_};
 ghost use mathlib.Core.Path.{_≡_};
 ghost use lib.ListN.{length, take, drop};
 ghost use Rattle.aadl.specs.Limits.{base, Allowed};
+ghost use Rattle.aadl.specs.Encoding.{first-words};
 ghost use Rattle.aadl.specs.Answers.{token-words, event-words, left-in};
 ghost use Rattle.aadl.specs.Listing.{listing-answer};
 ghost use Rattle.parser.specs.Input.{input};
@@ -27,10 +30,10 @@ ghost use Rattle.listing.specs.Pieces.{left, before, given, Gave, Lists-
 // How many bytes of a text are read: one more than may be, so that a longer text is refused for that one.
 pub const READ: usize = 32769;
 
-// "The program lends 16,384 token words and words for 8,192 events."
+// "The program lends 16,384 token words and words for 8,192 events", two words for each.
 pub const TOKENS: usize = 16384;
 
-pub const EVENTS: usize = 8192;
+pub const EVENTS: usize = 16384;
 
 // The room that is left for a line: none is longer.
 const LINE: usize = 80;
@@ -97,13 +100,14 @@ fn put_lines(
     from: usize,
 ) -> Reached
     requires { ⌜ from ≤ length (now out) ⌝ }
-    ensures { λ r. ⌜ Gave (length (now (out .entry)) - from) from (lines-from (input (now (src .entry)) (now (toks .entry))) event (drop event (now (words .entry))) position) (now (out .entry)) (r .at) (lines-from (input (now (src .entry)) (now (toks .entry))) (r .event) (drop (r .event) (now (words .entry))) (r .position)) (now (out .exit)) ⌝ }
+    ensures { λ r. ⌜ Gave (length (now (out .entry)) - from) from (lines-from (input (now (src .entry)) (now (toks .entry))) event (drop event (first-words (now (words .entry)))) position) (now (out .entry)) (r .at) (lines-from (input (now (src .entry)) (now (toks .entry))) (r .event) (drop (r .event) (first-words (now (words .entry)))) (r .position)) (now (out .exit)) ⌝ }
 {
+    let told = events_told(words);
     let mut at = from;
     let mut i = event;
     let mut c = position;
-    while i < words.len() && LINE <= out.len() - at {
-        let w = words[i];
+    while i < told && LINE <= out.len() - at {
+        let w = first_word(words, i);
         let s = c.spot;
         at = put_line(out, at, i, w, s);
         c = next_position(src, toks, w, c);
@@ -135,7 +139,7 @@ fn more(
     let events: &[u32] = events;
     let n = least(l.bytes, READ);
     let t = least(a.tokens, TOKENS);
-    let e = least(a.events, EVENTS);
+    let e = least(a.events, EVENTS / 2) * 2;
     let r = put_lines(
         &text[..n],
         &tokens[..t],

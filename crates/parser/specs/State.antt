@@ -46,7 +46,7 @@ halt n s = going (stopped n) s
 abbrev pub appended : Event → State → State
 appended e s = state (one-used (s .parser)) (put (s .parser) e (s .words))
 
--- Where "no event word left" stops it, the refusal is 5.
+-- Where "fewer than two words are left", that stops it: the refusal is 5.
 abbrev pub push-or-stop : Event → State → State
 push-or-stop e s = cond (ltb (s .parser .used) (room (s .words))) (appended e s) (stopped 5 s)
 

@@ -6,6 +6,7 @@ use codec::error_event;
 use codec::finish_event;
 use codec::kind_in;
 use codec::length_in;
+use codec::second_word;
 use codec::start_word;
 use codec::token_event;
 use codec::with_parent;
@@ -298,36 +299,37 @@ pub fn stop(p: Parser, number: usize) -> Parser
 // The most events that are pushed.
 const MOST: usize = 32768;
 
-// For how many events so many lent words have room.
+// For how many events so many lent words have room: two words for each.
 fn room(events: &[u32]) -> usize
     ensures { λ r. ⌜ r ≡ B.room (now (events .entry)) ⌝ }
 {
-    let lent = events.len();
+    let lent = events.len() / 2;
     if lent < MOST { lent } else { MOST }
 }
 
-// Gives the Start at a place its kind.
+// Gives the Start of the event with a number its kind, in its first word.
 fn name_start(events: &mut [u32], place: usize, kind: u32)
     requires { ⌜ kind < 256 ⌝ }
     ensures { λ _. ⌜ now (events .exit) ≡ B.named place kind (now (events .entry)) ⌝ }
 {
-    if place < events.len() {
-        events[place] = start_word(kind);
+    if place < events.len() - events.len() / 2 {
+        events[place * 2] = start_word(kind);
     }
 }
 
-// Gives the Start at a place a forward parent so far on.
+// Gives the Start of the event with a number a forward parent so far on, in its first word.
 fn link_start(events: &mut [u32], place: usize, distance: usize)
     requires { ⌜ distance < 65536 ⌝ }
     ensures { λ _. ⌜ now (events .exit) ≡ B.linked place distance (now (events .entry)) ⌝ }
 {
-    if place < events.len() {
-        let w = events[place];
-        events[place] = with_parent(w, distance);
+    if place < events.len() - events.len() / 2 {
+        let at = place * 2;
+        let w = events[at];
+        events[at] = with_parent(w, distance);
     }
 }
 
-// Pushes the event of a word.
+// Pushes the event of a word: that word, and the number of the next untaken token.
 fn push_event(events: &mut [u32], p: Parser, w: u32) -> Parser
     ensures { λ r. ⌜ ((e : E.Event) → w ≡ event-word e → Ran (S.push e) p (now (events .entry)) r (now (events .exit))) ⌝ }
 {
@@ -336,7 +338,9 @@ fn push_event(events: &mut [u32], p: Parser, w: u32) -> Parser
     }
     let used = p.used;
     if used < room(events) {
-        events[used] = w;
+        let at = used * 2;
+        events[at] = w;
+        events[at + 1] = second_word(p.at);
         return with_used(p, used + 1);
     }
     stop(p, 5)

@@ -50,14 +50,19 @@ rest-kept number used from ws e f =
 
 -- LINES ----------------------------------------------------------------------------------------------------------------
 
--- A number of used words past the lent ones is as good as theirs.
-more-least : (number used : ℕ) (ws : List ℕ) → more-lines number (min used (length ws)) ws ≡ more-lines number used ws
-unfolding more-lines rest
-more-least number used ws =
-    λ i. line (bytes "more") (take-within used ws i) ++ line (bytes "left") (cond (eqb number 0) (count old-word (drop-within used ws i)) (count 0 ws) ∷ [])
+-- Two numbers of used words that differ past the lent ones alone are as good as each other.
+module _ (j n : ℕ) (ws : List ℕ) (e : min j (length ws) ≡ min n (length ws)) where
+  pub take-alike : take j ws ≡ take n ws
+  take-alike = sym (take-within j ws) ∙ ap (λ (k : ℕ). take k ws) e ∙ take-within n ws
+
+  pub rest-alike : (number : ℕ) → rest number j ws ≡ rest number n ws
+  unfolding rest
+  rest-alike number =
+      ap (λ (us : List ℕ). cond (eqb number 0) (count old-word us) (count 0 ws)) (sym (drop-within j ws) ∙ ap (λ (k : ℕ). drop k ws) e ∙ drop-within n ws)
 
 -- So it is for words that are used four by four.
 pub more-within : (number n k : ℕ) (ws : List ℕ) → k ≡ min n (length ws) → more-lines number (k * 4) ws ≡ more-lines number (n * 4) ws
+unfolding more-lines
 more-within number n k ws e =
     let q : min (k * 4) (length ws) ≡ min (n * 4) (length ws) = omega (arith, e) in
-    sym (more-least number (k * 4) ws) ∙ ap (λ (used : ℕ). more-lines number used ws) q ∙ more-least number (n * 4) ws
+    λ i. line (bytes "more") (take-alike (k * 4) (n * 4) ws q i) ++ line (bytes "left") (rest-alike (k * 4) (n * 4) ws q number i ∷ [])

@@ -128,16 +128,17 @@ fn put_answer(out: &mut [u8], at: usize, a: Answer) -> usize
     put_numbers(out, end, &five)
 }
 
-// The end of the answer's line, and the lines of the token and event words.
+// The end of the answer's line, and the lines of the token and event words, two of these for each event.
 fn put_buffers(out: &mut [u8], at: usize, a: Answer, tokens: &[u32], events: &[u32]) -> usize
     ensures { λ r. ⌜ Wrote (now (out .entry)) at (10 ∷ word-lines a (now (tokens .entry)) (now (events .entry))) (now (out .exit)) r ⌝ }
 {
+    let used = least(a.events, events.len()) * 2;
     let mut end = put_byte(out, at, b'\n');
     end = put_line(out, end, b"tokens", tokens, a.tokens);
-    end = put_line(out, end, b"events", events, a.events);
+    end = put_line(out, end, b"events", events, used);
     let rests = [
         rest_of(tokens, a.number, a.tokens),
-        rest_of(events, a.number, a.events),
+        rest_of(events, a.number, used),
     ];
     put_row(out, end, b"rest", &rests)
 }

@@ -22,16 +22,18 @@ ghost use Rattle.aadl.specs.Answers.{token-words, left-in};
 ghost use Rattle.replay.specs.Calls.{answer-of, events-left, called, tree-called, parts-called, value-called, made};
 ghost use Rattle.replay.specs.Heads.{number-at, head-from, extended, known, record-head, lent-records};
 
-// How many bytes, token words and event words the longest record has, and how many record words: four for a record.
+// How many bytes and token words the longest record has; how many event words, two for an event; and how many record words, four for a record.
 const MOST: usize = 40000;
+
+const EVENTS: usize = 80000;
 
 const RECORDS: usize = 160000;
 
 // How many bytes wait to be written at the most, and how many a record's lines take at the most: 11 for each word, and some for names and numbers. A record has
-// 40,000 token and 40,000 event words at the most, and 65,536 record words, since each node has two of 32,768 events.
-const OUT: usize = 1703936;
+// 40,000 token words at the most, 65,536 event words, two for each of 32,768 events, and 65,536 record words, since each node has two events.
+const OUT: usize = 1984832;
 
-const LINES: usize = 1601296;
+const LINES: usize = 1882192;
 
 // In a record, in the place of a number: a record of the extended form, the largest settings, no event words.
 const NONE: u32 = 4294967295;
@@ -379,7 +381,7 @@ fn turns(
 
 // Zeros, for the bytes that wait. The `ensures` gives the length too, which lending them asks for.
 fn waiting() -> [u8; OUT]
-    ensures { λ r. ⌜ (r ≡ replicate 1703936 0) × (1703936 ≡ length r) ⌝ }
+    ensures { λ r. ⌜ (r ≡ replicate 1984832 0) × (1984832 ≡ length r) ⌝ }
 {
     [0; OUT]
 }
@@ -387,7 +389,7 @@ fn waiting() -> [u8; OUT]
 fn main() {
     let mut text = [0u8; MOST];
     let mut tokens = [0u32; MOST];
-    let mut events = [0u32; MOST];
+    let mut events = [0u32; EVENTS];
     let mut records = [0u32; RECORDS];
     let mut out = waiting();
     let at = turns(&mut text, &mut tokens, &mut events, &mut records, &mut out);

@@ -6,7 +6,7 @@ use mathlib.Core.Path.{_≡_, refl, sym, ap, subst, _∙_}
 use mathlib.Core.Logic.{_↔_}
 use mathlib.Core.Bool.{Bool, true, not, _&&_}
 use mathlib.Core.List.{List, [], _∷_, _++_}
-use lib.ListN.{length, take, length-map}
+use lib.ListN.{length, take, drop, length-map}
 use lib.Seq.{take-at}
 use lib.Dec.{eqb}
 use borrow.Author.Tests.{eq-eqb, eqb-true, ltb-false, not-true}
@@ -16,16 +16,19 @@ use Rattle.aadl.specs.declared.Answer.{Answer}
 use Rattle.aadl.specs.declared.Limits.{Limits}
 use Rattle.aadl.specs.Limits.{Allowed}
 use Rattle.aadl.specs.Tokens.{tokens, token-word}
-use Rattle.aadl.specs.Symbols.{symbols, kinds}
+use Rattle.aadl.specs.Symbols.{symbols, raw-number, kinds}
 use Rattle.aadl.specs.WordKinds.{Words-told}
 use Rattle.aadl.specs.NumberParts.{Numbers-told}
-use Rattle.aadl.specs.Encoding.{event-word, room, words-for}
+use Rattle.aadl.specs.Encoding.{room, words-for}
 use Rattle.aadl.specs.Reading.{events}
 use Rattle.aadl.specs.Answers.{Check, text-checks, section-checks, all-answered, section-answer, left-in, token-words, event-words}
+use Rattle.aadl.specs.EventTokens.{Tokens-known}
 use Rattle.aadl.specs.Demand.{answered-events, Clean-answer, solid-words, is-clean, Read-as-derived}
 use Rattle.aadl.proofs.Checks.{fails-by}
 use Rattle.aadl.proofs.Settled.{Lent, lent, five-numbers, Answered-whole, Settled, settled, whole}
-use Rattle.aadl.proofs.AnswerDerived.{answer-derived}
+use Rattle.aadl.proofs.EventPairs.{length-words-of}
+use Rattle.aadl.proofs.AnswerDerived.{answered-whole, answer-derived}
+use Rattle.aadl.proofs.EventTokens.{tokens-known}
 use Rattle.aadl.proofs.TokenText.{filled-told}
 use Rattle.aadl.proofs.WordTokens.{words-told}
 use Rattle.aadl.proofs.StringTokens.{Strings-closed, filled-closed}
@@ -74,8 +77,9 @@ module _ {limits : Limits} {text old last : List ℕ} {a : Answer} {ts es : List
 
   pub counted-events : Whole → take (words-for (a .events)) es ≡ event-words limits text
   counted-events x =
-      (λ i. take (x .counts i .events) (x .filled .1 .0 i))
-      ∙ take-at (event-words limits text) _ (length (events limits (symbols text))) (length-map (events limits (symbols text)) event-word)
+      let es = events limits (symbols text) in
+      (λ i. take (words-for (x .counts i .events)) (x .filled .1 .0 i))
+      ∙ take-at (event-words limits text) _ (words-for (length es)) (length-words-of (raw-number text) 0 es)
 
   -- Demand 2. The answer and every word at exit are those of the reading that is defined from 01, which was run against the Rust.
   pub every-answer-is-the-reading :
@@ -108,6 +112,18 @@ module _ {limits : Limits} {text old last : List ℕ} {a : Answer} {ts es : List
   every-number-is-told h z =
       filled-told (Numbers-told text) limits text old ts (checks limits text old last) (all-answered limits text) a (lent last (event-words limits text) es ∷ []) h refl refl
       (whole-answer z) (numbers-told text)
+
+  -- Of the second words: they never fall; a Token names a non-trivia token with its kind; the Start at which a node opens names the first
+  -- token below the node; and the token that an event names starts at the event's place.
+  pub every-event-knows-its-token : Allowed limits → a .number ≡ 0 → Tokens-known text a ts es
+  every-event-knows-its-token h z =
+      let x = whole-answer z in
+      let w = answered-whole limits text (length old) (length last) (sym (ap (λ (r : Answer). r .number) (c .answer)) ∙ z) in
+      let us = token-words text ++ drop (length (token-words text)) old in
+      subst (λ (r : Answer). Tokens-known text r ts es) (sym (x .counts))
+      (subst (λ (l : List ℕ). Tokens-known text (all-answered limits text) l es) (sym (x .filled .0))
+      (subst (λ (l : List ℕ). Tokens-known text (all-answered limits text) us l) (sym (x .filled .1 .0))
+      (tokens-known limits text (drop (length (token-words text)) old) (drop (length (event-words limits text)) last) (omega (arith, h, w .short)) (w .deep) (omega (arith, w .few)))))
 
   -- The test of the function `is_clean` is exact: it tells whether the answer is clean as demand 3 has it.
   pub clean-is-told : Allowed limits → a .number ≡ 0 → (is-clean a ts es ≡ true) ↔ Clean-answer text a es

@@ -1,6 +1,8 @@
 pub mod WordsBack
 pub mod Places
+pub mod Numbering
 pub mod Passing
+pub mod Seeking
 pub mod Advancing
 pub mod Sectioning
 pub mod CleanLaws

@@ -31,6 +31,7 @@ use Rattle.parser.proofs.Written.{written}
 use Rattle.parser.proofs.Emitted.{emitted-advance}
 use Rattle.section.specs.Replies.{reply, section-reply, Sectioned}
 use Rattle.section.proofs.Places.{behind-byte, new-behind, new-rest}
+use Rattle.section.proofs.Numbering.{along-numbers}
 use Rattle.section.proofs.Advancing.{Going, advances}
 
 module _ (limits : Limits) (text : List ℕ) (short : length text < 65536) where
@@ -82,7 +83,10 @@ module _ (limits : Limits) (text : List ℕ) (short : length text < 65536) where
 
     section-words : r .stop ≡ 0 → c ≡ event-words limits text ++ drop (length (event-words limits text)) b
     unfolding new
-    section-words h = section-emitted .words h ∙ written inp es begin b refl (sym (ap (λ (t : Parser). t .stop) (section-emitted .parser)) ∙ h)
+    section-words h =
+        let goes = sym (ap (λ (t : Parser). t .stop) (section-emitted .parser)) ∙ h in
+        let numbered = along-numbers text short es 0 (state begin b) (new-behind text (limits .openers) short) goes in
+        section-emitted .words h ∙ written inp es begin b refl goes ∙ ap (λ (ws : List ℕ). ws ++ drop (length ws) b) numbered
 
     section-answers : is (# PROPERTIES-KW) (symbols text) ≡ true → reply (length (tokens text)) r ≡ section-reply limits text (room-in (length b))
     unfolding section-reply too-deep new room

@@ -9,11 +9,12 @@ use Rattle.aadl.specs.declared.Answer.{Answer}
 use Rattle.aadl.specs.declared.Limits.{Limits}
 use Rattle.aadl.specs.Limits.{Allowed}
 use Rattle.aadl.specs.Tokens.{tokens, token-word}
-use Rattle.aadl.specs.Symbols.{symbols}
-use Rattle.aadl.specs.Encoding.{event-word}
+use Rattle.aadl.specs.Symbols.{symbols, raw-number}
+use Rattle.aadl.specs.Encoding.{words-for}
 use Rattle.aadl.specs.Reading.{events}
 use Rattle.aadl.specs.Answers.{all-answered, token-words, event-words}
 use Rattle.aadl.specs.Demand.{answered-events}
+use Rattle.aadl.proofs.EventPairs.{length-words-of}
 use Rattle.aadl.proofs.AnswerDerived.{Answered, answered-whole, told}
 use Rattle.section.proofs.Demands.{Called, whole-answer, counted-tokens, counted-events}
 
@@ -34,14 +35,14 @@ module _ {limits : Limits} {text old last : List ℕ} {a : Answer} {ts es : List
   tokens-fit =
       omega (arith, length-take (a .tokens) ts, ap length token-words-counted, length-map (tokens text) token-word, ap (λ (x : Answer). x .tokens) all-counted)
 
-  pub event-words-counted : take (a .events) es ≡ event-words limits text
+  pub event-words-counted : take (words-for (a .events)) es ≡ event-words limits text
   event-words-counted = counted-events c (whole-answer c z)
 
-  pub event-words-long : length (take (a .events) es) ≡ length (events limits (symbols text))
-  event-words-long = ap length event-words-counted ∙ length-map (events limits (symbols text)) event-word
+  pub event-words-long : length (take (words-for (a .events)) es) ≡ words-for (length (events limits (symbols text)))
+  event-words-long = ap length event-words-counted ∙ length-words-of (raw-number text) 0 (events limits (symbols text))
 
-  pub events-fit : a .events ≤ length es
-  events-fit = omega (arith, length-take (a .events) es, event-words-long, ap (λ (x : Answer). x .events) all-counted)
+  pub events-fit : words-for (a .events) ≤ length es
+  events-fit = omega (arith, length-take (words-for (a .events)) es, event-words-long, ap (λ (x : Answer). x .events) all-counted)
 
   pub events-told : answered-events a es ≡ events limits (symbols text)
   events-told = told limits text (length old) (length last) last a es (c .answer) (c .event-words-left) (sym (ap (λ (r : Answer). r .number) (c .answer)) ∙ z)

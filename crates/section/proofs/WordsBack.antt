@@ -1,7 +1,7 @@
 -- A text's token words stand for its tokens: a kind is below 128 and no token is longer than the text, so that both come back from
 -- the word (`words-back`). A word does not tell whether its token is closed, and what is made of tokens here does not ask (`told`): where they stand,
--- their kinds, and their lengths, which sum to the text's length. Assumes nothing.
-use Prim.Native.Nat.{ℕ, _+_, _%_, _<_}
+-- their raw numbers, their kinds, and their lengths, which sum to the text's length. Assumes nothing.
+use Prim.Native.Nat.{ℕ, suc, _+_, _%_, _<_}
 use native.Mathlib.Omega.{arith}
 use mathlib.Core.Path.{_≡_, refl, ap, ap₂, _∙_}
 use mathlib.Core.Bool.{cond}
@@ -10,7 +10,7 @@ use lib.ListN.{length}
 use Rattle.aadl.specs.declared.Token.{Token}
 use Rattle.aadl.specs.Bytes.{peek}
 use Rattle.aadl.specs.Tokens.{tokens, lengths, token, token-word, total}
-use Rattle.aadl.specs.Symbols.{is-trivia, symbol-of, Placed, placed, without-trivia, kinds}
+use Rattle.aadl.specs.Symbols.{is-trivia, symbol-of, Placed, placed, raw-numbers, without-trivia, kinds}
 use Rattle.aadl.specs.Answers.{token-words}
 use Rattle.aadl.proofs.Lists.{Each}
 use Rattle.aadl.proofs.TokensCover.{tokens-cover-text, kinds-small}
@@ -36,6 +36,11 @@ placed-told text i (t ∷ ts) =
     ap (λ (ps : List Placed). cond (is-trivia (t .kind)) ps (record { symbol = symbol-of (t .kind) (peek text i); place = i } ∷ ps))
     (placed-told text (i + t .len) ts)
 
+numbers-told : (i : ℕ) (ts : List Token) → raw-numbers i (map told ts) ≡ raw-numbers i ts
+unfolding raw-numbers
+numbers-told i [] = refl
+numbers-told i (t ∷ ts) = ap (λ (ns : List ℕ). cond (is-trivia (t .kind)) ns (i ∷ ns)) (numbers-told (suc i) ts)
+
 kinds-told : (ts : List Token) → without-trivia (map told ts) ≡ without-trivia ts
 kinds-told [] = refl
 kinds-told (t ∷ ts) = ap (λ (ks : List ℕ). cond (is-trivia (t .kind)) ks (t .kind ∷ ks)) (kinds-told ts)
@@ -55,6 +60,9 @@ module _ (text : List ℕ) (h : length text < 65536) where
 
   pub placed-back : placed text 0 (map token-in (token-words text)) ≡ placed text 0 (tokens text)
   placed-back = ap (placed text 0) back ∙ placed-told text 0 (tokens text)
+
+  pub numbers-back : raw-numbers 0 (map token-in (token-words text)) ≡ raw-numbers 0 (tokens text)
+  numbers-back = ap (raw-numbers 0) back ∙ numbers-told 0 (tokens text)
 
   pub kinds-back : without-trivia (map token-in (token-words text)) ≡ kinds text
   unfolding kinds

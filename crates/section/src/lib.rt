@@ -3,6 +3,8 @@
 use aadl::Answer;
 use aadl::Limits;
 use codec::class_in;
+use codec::events_told;
+use codec::first_word;
 use codec::kind_in;
 use lexer::BASE;
 use lexer::clear;
@@ -84,12 +86,13 @@ pub fn property_section(src: &[u8], tokens: &mut [u32], events: &mut [u32]) -> A
 fn any_error(events: &[u32], count: usize) -> bool
     ensures { λ r. ⌜ r ≡ erring any-fault (events-in count (now (events .entry))) ⌝ }
 {
+    let told = events_told(events);
     let mut i = 0;
     while i < count {
-        if events.len() <= i {
+        if told <= i {
             return false;
         }
-        if 3 <= class_in(events[i]) {
+        if 3 <= class_in(first_word(events, i)) {
             return true;
         }
         i += 1;

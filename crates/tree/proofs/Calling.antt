@@ -15,11 +15,12 @@ use Rattle.aadl.specs.declared.Limits.{Limits}
 use Rattle.aadl.specs.Limits.{most-events}
 use Rattle.aadl.specs.Kinds.{#_, PROPERTY-SECTION}
 use Rattle.aadl.specs.Tokens.{kind-in}
-use Rattle.aadl.specs.Symbols.{symbols, start-of}
-use Rattle.aadl.specs.Encoding.{event-word, event-in}
+use Rattle.aadl.specs.Symbols.{symbols, raw-number, start-of}
+use Rattle.aadl.specs.Encoding.{event-word, event-in, words-for, first-words}
 use Rattle.aadl.specs.Reading.{events}
 use Rattle.aadl.specs.Answers.{section-answer, left-in, token-words, event-words}
 use Rattle.aadl.specs.Records.{Record, record-room, text-records, record-words, with-records, tree-refused}
+use Rattle.aadl.proofs.EventPairs.{length-first-words, first-words-of}
 use Rattle.aadl.proofs.AnswerLaws.{left-by-refusal}
 use Rattle.aadl.proofs.TreeAnswers.{rooted, rooted-records, tree-refused-first, tree-passed, tree-full}
 use Rattle.section.proofs.Demands.{Called, every-answer-is-the-reading}
@@ -41,10 +42,12 @@ root-first limits xs = (_, rooted limits xs .its-events)
 some-event : (limits : Limits) (xs : List ℕ) → 1 ≤ length (events limits xs)
 some-event limits xs = let r = root-first limits xs in omega (arith, ap length (r .1))
 
-root-kind : (limits : Limits) (text : List ℕ) → kind-in (getD (event-words limits text) 0 0) ≡ # PROPERTY-SECTION
-root-kind limits text = ap (λ (es : List Event). kind-in (getD (map event-word es) 0 0)) (root-first limits (symbols text) .1)
+root-kind : (limits : Limits) (text : List ℕ) → kind-in (getD (first-words (event-words limits text)) 0 0) ≡ # PROPERTY-SECTION
+root-kind limits text =
+    ap (λ (ws : List ℕ). kind-in (getD ws 0 0)) (first-words-of (raw-number text) 0 (events limits (symbols text)))
+    ∙ ap (λ (es : List Event). kind-in (getD (map event-word es) 0 0)) (root-first limits (symbols text) .1)
 
--- The walk over words that tell a text's events fills the text's records.
+-- The walk over first words that tell a text's events fills the text's records.
 walk-of-text : (limits : Limits) (text ws : List ℕ) → map event-in ws ≡ events limits (symbols text) → kind-in (getD ws 0 0) ≡ # PROPERTY-SECTION →
     walked ws .rows ≡ text-records limits text
 walk-of-text limits text ws told kind =
@@ -80,17 +83,25 @@ module _ {limits : Limits} {text old last : List ℕ} {a : Answer} {ts es : List
       }
 
   module _ (z : a .number ≡ 0) where
+    -- the first words of the events that it counts
+    abbrev counted : List ℕ
+    counted = first-words (take (words-for (a .events)) es)
+
     -- There are some events, and not too many.
-    pub events-stand : (1 ≤ length (take (a .events) es)) × (length (take (a .events) es) ≤ most-events)
-    events-stand = (omega (arith, event-words-long c z, some-event limits (symbols text)), omega (arith, event-words-long c z, all-passed c z .few))
+    pub events-stand : (1 ≤ length counted) × (length counted ≤ most-events)
+    events-stand =
+        let long : length counted ≡ length (events limits (symbols text)) = omega (arith, length-first-words (take (words-for (a .events)) es), event-words-long c z) in
+        (omega (arith, long, some-event limits (symbols text)), omega (arith, long, all-passed c z .few))
 
     -- b is what was built of them, rs the record words, where the words rows were lent
-    module _ {rows : List ℕ} {b : Builder} {rs : List ℕ} (x : Built (take (a .events) es) rows b rs) where
+    module _ {rows : List ℕ} {b : Builder} {rs : List ℕ} (x : Built counted rows b rs) where
       abbrev all : List Record
       all = text-records limits text
 
-      built-rows : walked (take (a .events) es) .rows ≡ all
-      built-rows = walk-of-text limits text (take (a .events) es) (events-told c z) (ap (λ (ws : List ℕ). kind-in (getD ws 0 0)) (event-words-counted c z) ∙ root-kind limits text)
+      built-rows : walked counted .rows ≡ all
+      built-rows =
+          walk-of-text limits text counted (events-told c z)
+          (ap (λ (ws : List ℕ). kind-in (getD (first-words ws) 0 0)) (event-words-counted c z) ∙ root-kind limits text)
 
       same-room : record-room (length rs) ≡ record-room (length rows)
       same-room = ap record-room (x .long)

@@ -1,5 +1,5 @@
 -- Laws of the chains that Starts open. A chain is as long as there are events at most, it is the chain of the events that are left
--- where it begins, and of words it goes on by the last number of each: nothing for a word that is no Start, one link for a Start
+-- where it begins, and of first words it goes on by the last number of each: nothing for a word that is no Start, one link for a Start
 -- with no forward parent, and for any other the chain where it points and then its own link. What a chain opens is read off from
 -- its end: the last node's parent is the record before it. Each goes down the events, or the links. Assumes nothing.
 use Prim.Native.Nat.{ℕ, zero, suc, _+_, _≤_, _<_}

@@ -15,6 +15,7 @@ use Rattle.aadl.specs.declared.Limits.{Limits}
 use Rattle.aadl.specs.Limits.{Allowed}
 use Rattle.aadl.specs.WordKinds.{Words-told}
 use Rattle.aadl.specs.NumberParts.{Numbers-told}
+use Rattle.aadl.specs.EventTokens.{Tokens-known}
 use Rattle.aadl.specs.Kinds.{#_, PROPERTY-SECTION}
 use Rattle.aadl.specs.Symbols.{kinds}
 use Rattle.aadl.specs.Answers.{left-in, token-words, event-words}
@@ -24,7 +25,7 @@ use Rattle.aadl.proofs.Settled.{Settled}
 use Rattle.aadl.proofs.StringTokens.{Strings-closed}
 use Rattle.aadl.proofs.TreeAnswers.{all-checks, six-numbers, tree-buffers, tree-answer-is-settled, tree-answered, tree-read-as-derived, records-told, tree-recorded}
 use Rattle.aadl.proofs.RecordsUpwards.{Upwards, record-at, insides, text-upwards, text-run}
-use Rattle.section.proofs.Demands.{Called, every-word-is-told, every-string-is-closed, every-number-is-told}
+use Rattle.section.proofs.Demands.{Called, every-word-is-told, every-string-is-closed, every-number-is-told, every-event-knows-its-token}
 use Rattle.section.proofs.Unrefused.{all-counted, events-told}
 
 -- What the contract of the tree call says of its answer a and the token, event and record words ts, es and rs, where the words old, last
@@ -85,6 +86,9 @@ module _ {limits : Limits} {text old last rows : List ℕ} {a : TreeAnswer} {ts 
 
     pub every-tree-number-is-told : Allowed limits → Numbers-told text (a .answer .tokens) ts
     every-tree-number-is-told h = every-number-is-told section's h z
+
+    pub every-tree-event-knows-its-token : Allowed limits → Tokens-known text (a .answer) ts es
+    every-tree-event-knows-its-token h = every-event-knows-its-token section's h z
 
     all-told : answered-records a rs ≡ text-records limits text
     all-told = records-told limits text (length old) (length last) (length rows) a (c .answer) z rows rs (c .record-words-left)

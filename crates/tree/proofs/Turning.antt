@@ -1,4 +1,4 @@
--- What an event of words does to a walk, by the word's class; and the walk from an event on, turn by turn. Assumes nothing.
+-- What an event of first words does to a walk, by its word's class; and the walk from an event on, turn by turn. Assumes nothing.
 use Prim.Native.Nat.{ℕ, zero, suc, _<_}
 use native.Mathlib.Omega.{arith}
 use mathlib.Core.Path.{_≡_, refl, sym, ap, ap₂, _∙_}

@@ -46,12 +46,12 @@ pub record Full (old : List ℕ) (w v : Walk) (b : Builder) (words : List ℕ) :
 abbrev pub Stepped : (old : List ℕ) → (i : ℕ) → (w v : Walk) → Builder → (words : List ℕ) → Type 0
 Stepped old i w v b words = Holds old i v b words ⊎ Full old w v b words
 
--- The walk over the events in words.
-abbrev pub walked : (words : List ℕ) → Walk
+-- The walk over the events that first words tell.
+abbrev pub walked : (first-words : List ℕ) → Walk
 walked ws = walk 0 (map event-in ws) (root (kind-in (getD ws 0 0)))
 
--- What a builder gives for the events in words, the words old being lent: the records; or that one is missing, and which token is the
--- first below its node.
+-- What a builder gives for the events that the first words ws tell, the words old being lent: the records; or that one is missing, and
+-- which token is the first below its node.
 pub record Built (ws old : List ℕ) (b : Builder) (words : List ℕ) : Type 0 where
   pub counts : b .records ≤ record-room (length old) → b .records ≡ length (walked ws .rows)
   pub lays : b .records ≤ record-room (length old) → words ≡ laid (walked ws .rows) old

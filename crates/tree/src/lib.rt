@@ -4,6 +4,8 @@ use aadl::Answer;
 use aadl::Limits;
 use aadl::TreeAnswer;
 use codec::class_in;
+use codec::events_told;
+use codec::first_word;
 use codec::kind_in;
 use codec::last_in;
 use lexer::BASE;
@@ -13,13 +15,13 @@ use parser::new;
 use parser::pass;
 use section::property_section_within;
 ghost use mathlib.Core.Path.{_≡_};
-ghost use mathlib.Core.List.{List, [], _∷_, map};
+ghost use mathlib.Core.List.{List, [], _∷_};
 ghost use Prim.Native.Nat.{ℕ, suc, _+_, _*_, _≤_, _<_};
 ghost use lib.ListN.{length, drop, replicate};
 ghost use lib.Seq.{sets};
 ghost use Rattle.aadl.specs.Limits.{base, Allowed, most-events};
 ghost use Rattle.aadl.specs.Symbols.{start-of};
-ghost use Rattle.aadl.specs.Encoding.{event-in};
+ghost use Rattle.aadl.specs.Encoding.{first-words, told-by};
 ghost use Rattle.aadl.specs.Answers.{token-words, event-words, left-in};
 ghost use Rattle.aadl.specs.Demand.{Read-as-derived};
 ghost use Rattle.aadl.specs.Records.{of-node, words-of-records, record-words, with-records, tree-answer, Recorded};
@@ -38,12 +40,13 @@ pub struct Builder {
 
 // How many Starts the chain has that begins with an event.
 fn chain_length(events: &[u32], i: usize) -> usize
-    ensures { λ r. ⌜ r ≡ length (links 0 (map event-in (now (events .entry))) i) ⌝ }
+    ensures { λ r. ⌜ r ≡ length (links 0 (told-by (now (events .entry))) i) ⌝ }
 {
+    let told = events_told(events);
     let mut n: usize = 0;
     let mut at = i;
-    while at < events.len() {
-        let w = events[at];
+    while at < told {
+        let w = first_word(events, at);
         if class_in(w) != 0 {
             return n;
         }
@@ -78,14 +81,14 @@ fn put_record(
 
 // Opens the nodes of a chain of n Starts that begins with event i: from the chain's end, the innermost node first.
 fn open_chain(events: &[u32], records: &mut [u32], i: usize, n: usize, b: Builder)
-    requires { ⌜ (n ≡ length (links 0 (map event-in (now events)) i)) × ((b .records + n) * 4 ≤ length (now records)) × (b .records + n < 4294967296) × (b .innermost < 4294967296) × (b .taken < 4294967296) × (length (now events) ≤ most-events) ⌝ }
-    ensures { λ r. ⌜ now (records .exit) ≡ sets (now (records .entry)) (b .records * 4) (words-of-records (opened (b .innermost) (b .records) (b .taken) (links 0 (map event-in (now (events .entry))) i))) ⌝ }
+    requires { ⌜ (n ≡ length (links 0 (told-by (now events)) i)) × ((b .records + n) * 4 ≤ length (now records)) × (b .records + n < 4294967296) × (b .innermost < 4294967296) × (b .taken < 4294967296) × (length (first-words (now events)) ≤ most-events) ⌝ }
+    ensures { λ r. ⌜ now (records .exit) ≡ sets (now (records .entry)) (b .records * 4) (words-of-records (opened (b .innermost) (b .records) (b .taken) (links 0 (told-by (now (events .entry))) i))) ⌝ }
 {
     let mut at = i;
     let mut number = b.records + n;
     while b.records < number {
         number -= 1;
-        let w = events[at];
+        let w = first_word(events, at);
         let parent = if number == b.records {
             b.innermost
         } else {
@@ -100,8 +103,8 @@ fn open_chain(events: &[u32], records: &mut [u32], i: usize, n: usize, b: Builde
 
 // A Start: it was used by an earlier one if it is the innermost open node's own; else it opens its chain.
 fn start(events: &[u32], records: &mut [u32], i: usize, b: Builder) -> Builder
-    requires { ⌜ (i < length (now events)) × (length (now events) ≤ most-events) × ((old : List ℕ) × ((w : Walk) × Holds old i w b (now records))) ⌝ }
-    ensures { λ r. ⌜ ((old : List ℕ) (w : Walk) → Holds old i w b (now (records .entry)) → Stepped old (suc i) w (begun i (drop i (map event-in (now (events .entry)))) w) r (now (records .exit))) ⌝ }
+    requires { ⌜ (i < length (first-words (now events))) × (length (first-words (now events)) ≤ most-events) × ((old : List ℕ) × ((w : Walk) × Holds old i w b (now records))) ⌝ }
+    ensures { λ r. ⌜ ((old : List ℕ) (w : Walk) → Holds old i w b (now (records .entry)) → Stepped old (suc i) w (begun i (drop i (told-by (now (events .entry)))) w) r (now (records .exit))) ⌝ }
 {
     if records[b.innermost * 4 + 3] == i as u32 {
         return b;
@@ -141,10 +144,10 @@ fn finish(records: &mut [u32], i: usize, b: Builder) -> Builder
 
 // What an event does to the tree.
 fn turn(events: &[u32], records: &mut [u32], i: usize, b: Builder) -> Builder
-    requires { ⌜ (i < length (now events)) × (length (now events) ≤ most-events) × ((old : List ℕ) × ((w : Walk) × Holds old i w b (now records))) ⌝ }
-    ensures { λ r. ⌜ ((old : List ℕ) (w : Walk) → Holds old i w b (now (records .entry)) → Stepped old (suc i) w (turn i (drop i (map event-in (now (events .entry)))) w) r (now (records .exit))) ⌝ }
+    requires { ⌜ (i < length (first-words (now events))) × (length (first-words (now events)) ≤ most-events) × ((old : List ℕ) × ((w : Walk) × Holds old i w b (now records))) ⌝ }
+    ensures { λ r. ⌜ ((old : List ℕ) (w : Walk) → Holds old i w b (now (records .entry)) → Stepped old (suc i) w (turn i (drop i (told-by (now (events .entry)))) w) r (now (records .exit))) ⌝ }
 {
-    let class = class_in(events[i]);
+    let class = class_in(first_word(events, i));
     if class == 0 {
         return start(events, records, i, b);
     }
@@ -164,8 +167,8 @@ fn turn(events: &[u32], records: &mut [u32], i: usize, b: Builder) -> Builder
 // The records of the tree that events spell, into lent words: in one pass over the events, with no memory but these words. While a node
 // is open its fourth word holds the number of its Start's event. The root, whose Start is the first event, is open from the beginning.
 fn build(events: &[u32], records: &mut [u32]) -> Builder
-    requires { ⌜ (1 ≤ length (now events)) × (length (now events) ≤ most-events) ⌝ }
-    ensures { λ r. ⌜ Built (now (events .entry)) (now (records .entry)) r (now (records .exit)) ⌝ }
+    requires { ⌜ (1 ≤ length (first-words (now events))) × (length (first-words (now events)) ≤ most-events) ⌝ }
+    ensures { λ r. ⌜ Built (first-words (now (events .entry))) (now (records .entry)) r (now (records .exit)) ⌝ }
 {
     if records.len() < 4 {
         return Builder {
@@ -175,14 +178,15 @@ fn build(events: &[u32], records: &mut [u32]) -> Builder
         };
     }
     let room = records.len() / 4;
-    put_record(records, 0, kind_in(events[0]), 0, 0, 0);
+    put_record(records, 0, kind_in(first_word(events, 0)), 0, 0, 0);
     let mut b = Builder {
         records: 1,
         innermost: 0,
         taken: 0,
     };
+    let told = events_told(events);
     let mut i = 0;
-    while i < events.len() {
+    while i < told {
         b = turn(events, records, i, b);
         if room < b.records {
             return b;
@@ -240,7 +244,7 @@ pub fn property_tree_within(
     if a.number != 0 {
         return without_records(records, a);
     }
-    let b = build(&events[..a.events], records);
+    let b = build(&events[..a.events * 2], records);
     if records.len() / 4 < b.records {
         let place = token_place(src, &tokens[..a.tokens], b.taken);
         clear(events);

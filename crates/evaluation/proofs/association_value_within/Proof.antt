@@ -1,5 +1,6 @@
 -- The call, way by way (Calling): the section call refused, the verdict is a refusal, or it is a value. The words that the section call
 -- counted are within those lent, and are the text's. Assumes nothing.
+use native.Mathlib.Omega.{arith}
 use mathlib.Core.Path.{_≡_, sym, ap, subst}
 use lib.Seq.{length-take-le}
 use lib.IntN.{ℤ, pos}
@@ -8,9 +9,10 @@ use mir.Val.{toZ, ofZ}
 use mir.ValLaws.{toZ-ofZ}
 use borrow.Author.Needs.{needs}
 use Rattle.aadl.specs.declared.Answer.{Answer}
+use Rattle.aadl.specs.Encoding.{words-for}
 use Rattle.aadl.specs.Values.{with-value}
 use Rattle.section.proofs.Demands.{Called}
-use Rattle.section.proofs.Unrefused.{tokens-fit, events-fit}
+use Rattle.section.proofs.Unrefused.{all-passed, all-counted, tokens-fit, events-fit}
 use Rattle.evaluation.proofs.Demands.{Called-value, every-value-is-derived, every-value-is-valued}
 use Rattle.evaluation.proofs.Calling.{called-refused, was-read, called-judged, called-valued}
 use Rattle.evaluation.proofs.association_value_within.Statement.{statement}
@@ -42,19 +44,26 @@ token-count-is c =
     let at-section = c .before .before .before .before .before .before .before in
     sym (length-take-le (at-section .property-section-within .result .tokens) (at-section .property-section-within .last .1 .0) (token-count-fits (c .before)))
 
+event-count-small : tie.Need-mul-judge
+event-count-small c =
+    let at-section = c .before .before .before .before .before .before .before .before in
+    let z = c .before .before .if1 .left in
+    record { fits = omega (arith, ap (λ (a : Answer). a .events) (all-counted (section at-section) z), all-passed (section at-section) z .few) }
+
 event-count-fits : tie.Need-slice-reshare-prefix-judge-2
 event-count-fits c =
-    let at-section = c .before .before .before .before .before .before .before in
-    events-fit (section at-section) (c .before .if1 .left)
+    let at-section = c .before .before .before .before .before .before .before .before in
+    events-fit (section at-section) (c .before .before .if1 .left)
 
 event-count-is : tie.Need-slice-aggregate-judge-2
 event-count-is c =
-    let at-section = c .before .before .before .before .before .before .before .before in
-    sym (length-take-le (at-section .property-section-within .result .events) (at-section .property-section-within .last .1 .1 .0) (event-count-fits (c .before)))
+    let at-section = c .before .before .before .before .before .before .before .before .before in
+    let a = at-section .property-section-within in
+    sym (length-take-le (words-for (a .result .events)) (a .last .1 .1 .0) (event-count-fits (c .before)))
 
 judge-requires : tie.Need-judge-requires
 judge-requires c κs =
-    let at-if1 = c .before .before in
+    let at-if1 = c .before .before .before in
     let at-section = at-if1 .before .before .before .before .before .before in
     let at-args = at-section .before .before .before .before .before .before in
     (at-args .args .limits, was-read (section at-section) (at-args .args .number) (at-if1 .if1 .left) (at-args .pre))
@@ -65,7 +74,7 @@ returns-2 c =
     let at-clear = at-refuse .before .before .before .before in
     let at-if2 = at-clear .before .before in
     let at-judge = at-if2 .before .before in
-    let at-if1 = at-judge .before .before .before in
+    let at-if1 = at-judge .before .before .before .before in
     let at-section = at-if1 .before .before .before .before .before .before in
     let at-args = at-section .before .before .before .before .before .before in
     let kept = at-section .property-section-within .kept in
@@ -79,7 +88,7 @@ returns-3 : tie.Need-returns-3
 returns-3 c =
     let at-if2 = c .before in
     let at-judge = at-if2 .before .before in
-    let at-if1 = at-judge .before .before .before in
+    let at-if1 = at-judge .before .before .before .before in
     let at-section = at-if1 .before .before .before .before .before .before in
     let at-args = at-section .before .before .before .before .before .before in
     let v = at-judge .judge .ensures (at-args .args .limits) (was-read (section at-section) (at-args .args .number) (at-if1 .if1 .left) (at-args .pre)) in
@@ -93,5 +102,5 @@ returns-3 c =
 pub association-value-within-spec : {M : Type 1} → statement M
 association-value-within-spec =
     tie.close
-    (tie.spec (λ c κs. search needs) (λ c. search needs) (λ c. search needs) returns token-count-fits token-count-is event-count-fits event-count-is judge-requires
-    (λ c κs. search needs) (λ c κs. search needs) (λ c. search needs) (λ c. search needs) returns-2 (λ c. search needs) (λ c. search needs) returns-3)
+    (tie.spec (λ c κs. search needs) (λ c. search needs) (λ c. search needs) returns token-count-fits token-count-is
+    event-count-small event-count-fits event-count-is judge-requires (λ c κs. search needs) (λ c κs. search needs) (λ c. search needs) (λ c. search needs) returns-2 (λ c. search needs) (λ c. search needs) returns-3)

@@ -1,8 +1,11 @@
 -- The bytes that were read and the words that are counted are parts of what is lent; of these the lines are left (PieceLaws). Assumes nothing.
+use Prim.Native.Nat.{min}
 use native.Mathlib.Omega.{arith}
-use mathlib.Core.Path.{sym}
+use mathlib.Core.Path.{_≡_, sym, ap}
 use lib.ListN.{drop}
 use lib.Seq.{length-take-le}
+use Rattle.aadl.specs.Encoding.{words-for, first-words}
+use Rattle.aadl.specs.Listing.{lent-events}
 use Rattle.writing.proofs.LeastLaws.{take-least}
 use Rattle.parser.specs.Input.{input}
 use Rattle.listing.specs.Positions.{lines-from}
@@ -24,11 +27,15 @@ count-toks c =
     let at-tokens = at-least .before .before .before in
     sym (length-take-le (at-least .least2 .result) _ (omega (arith, at-least .least2 .ensures, at-tokens .tokens .given .0)))
 
+-- two words for each event that has them
+pairs-fit : tie.Need-mul-e
+pairs-fit c = omega (arith, c .least3 .ensures)
+
 count-words : tie.Need-slice-aggregate-put-lines-3
 count-words c =
     let at-least = c .before .before .before in
     let at-events = at-least .before .before .before in
-    sym (length-take-le (at-least .least3 .result) _ (omega (arith, at-least .least3 .ensures, at-events .events .given .0)))
+    sym (length-take-le (words-for (at-least .least3 .result)) _ (omega (arith, at-least .least3 .ensures, at-events .events .given .0)))
 
 returns : tie.Need-returns
 unfolding left
@@ -44,7 +51,8 @@ returns c =
     let l = x .l in
     let s = take-least _ _ _ (x .text .now) (at-least .least .ensures) (at-text .text .given .0) in
     let t = take-least _ _ _ (x .tokens .now) (at-least2 .least2 .ensures) (at-tokens .tokens .given .0) in
-    let w = take-least _ _ _ (x .events .now) (at-least3 .least3 .ensures) (at-events .events .given .0) in
+    let pairs : words-for (at-least3 .least3 .result) ≡ min (words-for (l .answer .events)) lent-events = omega (arith, at-least3 .least3 .ensures) in
+    let w = ap first-words (take-least _ (words-for (l .answer .events)) lent-events (x .events .now) pairs (at-events .events .given .0)) in
     let r = at-lines .put-lines .result in
     gave-same (at-lines .put-lines .ensures)
     (λ i. lines-from (input (s i) (t i)) (l .event) (drop (l .event) (w i)) (l .position))
@@ -53,4 +61,4 @@ returns c =
 pub more-spec : {M : Type 1} → statement M
 more-spec =
     tie.close
-    (tie.spec (λ c κs. search needs) (λ c κs. search needs) (λ c κs. search needs) count-src count-toks count-words (λ c κs. search needs) (λ c. search needs) returns)
+    (tie.spec (λ c κs. search needs) (λ c κs. search needs) (λ c κs. search needs) pairs-fit count-src count-toks count-words (λ c κs. search needs) (λ c. search needs) returns)

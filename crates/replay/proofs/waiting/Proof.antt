@@ -6,7 +6,7 @@ use Rattle.replay.proofs.waiting.Statement.{statement}
 use Rattle.replay.proofs.waiting.Tie as tie
 
 returns : tie.Need-returns
-returns c = (refl, sym (length-replicate {0} {A = ℕ} 1703936 0))
+returns c = (refl, sym (length-replicate {0} {A = ℕ} 1984832 0))
 
 pub waiting-spec : {M : Type 1} → statement M
 waiting-spec = tie.close (tie.spec returns)
