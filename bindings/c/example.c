@@ -9,7 +9,7 @@
 
 static char text[GIGBODA_MOST_BYTES + 1]; /* one byte more than may be read: a longer text is refused 1 without being held */
 static uint32_t tokens[GIGBODA_MOST_BYTES];
-static uint32_t events[GIGBODA_MOST_EVENTS];
+static uint32_t events[GIGBODA_EVENT_WORDS * GIGBODA_MOST_EVENTS];
 
 static void print_place(size_t length, size_t place, const char *what)
 {
@@ -71,7 +71,8 @@ static int read_text(const char *name, size_t *length)
 /* Prints what the text is; 0 if it is clean. */
 static int print_text(size_t length)
 {
-    struct gigboda_answer answer = gigboda_read_section(text, length, tokens, GIGBODA_MOST_BYTES, events, GIGBODA_MOST_EVENTS);
+    struct gigboda_answer answer =
+        gigboda_read_section(text, length, tokens, GIGBODA_MOST_BYTES, events, GIGBODA_EVENT_WORDS * GIGBODA_MOST_EVENTS);
 
     if (answer.number == GIGBODA_REFUSAL_NONE)
         return print_tree(length, &answer);

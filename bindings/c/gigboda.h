@@ -24,18 +24,21 @@ extern "C" {
 #endif
 
 #define GIGBODA_VERSION_MAJOR 0
-#define GIGBODA_VERSION_MINOR 7
+#define GIGBODA_VERSION_MINOR 8
 #define GIGBODA_VERSION_PATCH 0
 #define GIGBODA_QUOTED_NUMBERS(major, minor, patch) #major "." #minor "." #patch
 #define GIGBODA_QUOTED(major, minor, patch) GIGBODA_QUOTED_NUMBERS(major, minor, patch)
 #define GIGBODA_VERSION GIGBODA_QUOTED(GIGBODA_VERSION_MAJOR, GIGBODA_VERSION_MINOR, GIGBODA_VERSION_PATCH)
 
-/* The limits. A text has at most GIGBODA_MOST_BYTES bytes, and a token at least one: with as many token words no text is refused 3. Of the
- * event words at most GIGBODA_MOST_EVENTS are used: with as many a text is refused 5 only if its section has more events than that, and
- * more words do not help. `properties a=>` and 16,377 times `1,` is refused 5 whatever is lent. A node has two events, a Start and a Finish,
- * and a record of GIGBODA_RECORD_WORDS words: with GIGBODA_MOST_NODES times as many record words no text is refused 7. */
+/* The limits. A text has at most GIGBODA_MOST_BYTES bytes, and a token at least one: with as many token words no text is refused 3. An event
+ * has GIGBODA_EVENT_WORDS words: so many event words have room for half as many events, and an odd one at the end is never used. At most
+ * GIGBODA_MOST_EVENTS events are read: with GIGBODA_EVENT_WORDS times as many event words a text is refused 5 only if its section has more
+ * events than that, and more words do not help. `properties a=>` and 16,377 times `1,` is refused 5 whatever is lent. A node has two events,
+ * a Start and a Finish, and a record of GIGBODA_RECORD_WORDS words: with GIGBODA_MOST_NODES times as many record words no text is refused
+ * 7. */
 #define GIGBODA_MOST_BYTES 32768
 #define GIGBODA_MOST_EVENTS 32768
+#define GIGBODA_EVENT_WORDS 2
 #define GIGBODA_MOST_NODES (GIGBODA_MOST_EVENTS / 2)
 #define GIGBODA_RECORD_WORDS 4
 
@@ -69,7 +72,7 @@ struct gigboda_answer {
     size_t place;  /* 0, or the byte of the text at which it is refused, from 0 */
     size_t tokens; /* how many token words are filled */
     size_t taken;  /* how many tokens, spaces and comments not counted, the section takes */
-    size_t events; /* how many event words are filled */
+    size_t events; /* how many events there are: twice as many event words are filled */
 };
 
 /* What the tree call answers. */
@@ -91,7 +94,7 @@ enum gigboda_refusal {
     GIGBODA_REFUSAL_NOT_UTF8 = 2,      /* start of the first ill-formed sequence */
     GIGBODA_REFUSAL_NO_TOKEN_WORD = 3, /* more tokens than lent words; start of the first without one */
     GIGBODA_REFUSAL_NO_PROPERTIES = 4, /* the first token but trivia is not `properties`; its start, or the text's length */
-    GIGBODA_REFUSAL_NO_EVENT_WORD = 5, /* no event word left; start of the next token not taken, or the text's length */
+    GIGBODA_REFUSAL_NO_EVENT_WORD = 5, /* fewer than two event words left; start of the next token not taken, or the text's length */
     GIGBODA_REFUSAL_TOO_DEEP = 6,      /* a 65th open `(`, `[`, `not` or sign; its start */
     GIGBODA_REFUSAL_NO_RECORD = 7,     /* more nodes than lent records; start of the first token of the first without one, or of the token
                                         * that comes next if it has none, or the text's length */
@@ -161,7 +164,8 @@ static inline struct gigboda_answer gigboda_answer_of(const size_t *numbers)
 }
 
 /* The section call. Writes the text's tokens into the first token words and the events of its property section into the first event
- * words; the words behind them stay as they were. A refusal (1 to 6, or 8) leaves every lent word 0. */
+ * words, two words each (see Words, below). events_len counts words: half of it is the room for events. The words behind those that are
+ * filled stay as they were, an odd last event word among them. A refusal (1 to 6, or 8) leaves every lent word 0. */
 static inline struct gigboda_answer gigboda_read_section(const char *text, size_t text_len, uint32_t *tokens, size_t tokens_len,
                                                          uint32_t *events, size_t events_len)
 {
@@ -312,7 +316,7 @@ static inline int gigboda_is_trivia(uint32_t word)
     return gigboda_token_kind(word) == GIGBODA_KIND_WHITESPACE || gigboda_token_kind(word) == GIGBODA_KIND_COMMENT;
 }
 
-/* An event word: class, kind, and a last field that the class explains. */
+/* An event has two words. The first one: class, kind, and a last field that the class explains. */
 enum gigboda_class {
     GIGBODA_CLASS_START = 0,  /* a node of that kind; last is its forward parent, 0 for none */
     GIGBODA_CLASS_TOKEN = 1,  /* the next token that is not trivia, of that kind; last is 1 */
@@ -322,6 +326,33 @@ enum gigboda_class {
 static inline unsigned gigboda_event_class(uint32_t word) { return word / 16777216; }
 static inline unsigned gigboda_event_kind(uint32_t word) { return word / 65536 % 256; }
 static inline unsigned gigboda_event_last(uint32_t word) { return word % 65536; }
+
+/* The first word of the event with a number, from 0. It must be one of those that the answer counts. */
+static inline uint32_t gigboda_event_word(const uint32_t *events, size_t event) { return events[GIGBODA_EVENT_WORDS * event]; }
+
+/* The second one: an event's token by its number among all tokens, from 0, spaces and comments too. A Token has its own; any other event that
+ * of the token, trivia left out, that came next when it was pushed, or how many tokens there are if none did. From event to event it never
+ * falls. A node's first token, or the next one if it has none, is that of the Start at which the node opens: of the first Start of its chain.
+ * The node of a range, a sum or a product is put around its first operand when that one is read, so that its own Start names the token
+ * behind that operand. */
+static inline size_t gigboda_event_token(const uint32_t *events, size_t event) { return events[GIGBODA_EVENT_WORDS * event + 1]; }
+
+/* Where the token with a number starts, a byte of the text; the text's end for as many as there are. It adds up the lengths before it. */
+static inline size_t gigboda_token_place(const struct gigboda_answer *answer, const uint32_t *tokens, size_t token)
+{
+    size_t place = 0, i;
+
+    for (i = 0; i < token && i < answer->tokens; i++)
+        place += gigboda_token_length(tokens[i]);
+    return place;
+}
+
+/* Line and column of an event's token, those that `list` prints for the event. */
+static inline struct gigboda_position gigboda_event_position(const char *text, size_t text_len, const struct gigboda_answer *answer,
+                                                             const uint32_t *tokens, const uint32_t *events, size_t event)
+{
+    return gigboda_position_of(text, text_len, gigboda_token_place(answer, tokens, gigboda_event_token(events, event)));
+}
 
 /* Messages of Error events; 256 + kind: a token of that kind is missing. */
 enum gigboda_message {
@@ -373,7 +404,7 @@ static inline int gigboda_is_clean(const struct gigboda_answer *answer, const ui
     for (i = 0; i < answer->tokens; i++)
         whole += !gigboda_is_trivia(tokens[i]);
     for (i = 0; i < answer->events; i++)
-        errors += gigboda_event_class(events[i]) == GIGBODA_CLASS_ERROR;
+        errors += gigboda_event_class(gigboda_event_word(events, i)) == GIGBODA_CLASS_ERROR;
     return answer->events > 0 && errors == 0 && whole == answer->taken;
 }
 
@@ -407,7 +438,8 @@ struct gigboda_step {
     unsigned kind;    /* of the node that begins, or of the token; else 0 */
     unsigned message; /* of an ERROR; else 0 */
     size_t depth;     /* how many nodes are around the node, the token or the message */
-    size_t token;     /* a TOKEN's number among all tokens, from 0; else the next one's that is not taken, or how many there are */
+    size_t token;     /* a TOKEN's number among all tokens, from 0; else the next one's that is not taken, or how many there are. So an
+                       * ENTER has its node's first token */
     size_t place;     /* where that token starts, or the text's end */
     size_t end;       /* where the last token ends that was taken, a TOKEN's own end; 0 before the first */
 };
@@ -415,7 +447,7 @@ struct gigboda_step {
 /* Where a walk stands. Its fields are its own. */
 struct gigboda_walk {
     const uint32_t *tokens, *events;
-    size_t tokens_len, events_len;
+    size_t tokens_len, events_len; /* how many tokens and how many events */
     size_t event;   /* the next event */
     size_t opening; /* of a chain that is being opened, the Start of the node to enter next; else events_len */
     size_t depth;   /* how many nodes are open */
@@ -451,11 +483,12 @@ static inline struct gigboda_walk gigboda_walk_of(const struct gigboda_answer *a
 /* The Start at the outer end of a Start's chain. */
 static inline size_t gigboda_walk_outermost(const struct gigboda_walk *walk, size_t start)
 {
-    size_t last = gigboda_event_last(walk->events[start]);
+    size_t last = gigboda_event_last(gigboda_event_word(walk->events, start));
 
-    while (last != 0 && last < walk->events_len - start && gigboda_event_class(walk->events[start + last]) == GIGBODA_CLASS_START) {
+    while (last != 0 && last < walk->events_len - start
+           && gigboda_event_class(gigboda_event_word(walk->events, start + last)) == GIGBODA_CLASS_START) {
         start += last;
-        last = gigboda_event_last(walk->events[start]);
+        last = gigboda_event_last(gigboda_event_word(walk->events, start));
     }
     return start;
 }
@@ -466,14 +499,14 @@ static inline size_t gigboda_walk_inner(const struct gigboda_walk *walk, size_t 
 {
     size_t finishes = 0, at = start;
 
-    if (start == 0 || gigboda_event_class(walk->events[start - 1]) != GIGBODA_CLASS_FINISH)
+    if (start == 0 || gigboda_event_class(gigboda_event_word(walk->events, start - 1)) != GIGBODA_CLASS_FINISH)
         return start;
     while (at > 0) {
-        unsigned sort = gigboda_event_class(walk->events[--at]);
+        unsigned sort = gigboda_event_class(gigboda_event_word(walk->events, --at));
 
         finishes += sort == GIGBODA_CLASS_FINISH;
         if (sort == GIGBODA_CLASS_START && --finishes == 0)
-            return gigboda_event_last(walk->events[at]) == start - at ? at : start;
+            return gigboda_event_last(gigboda_event_word(walk->events, at)) == start - at ? at : start;
     }
     return start;
 }
@@ -484,7 +517,7 @@ static inline void gigboda_walk_enter(struct gigboda_walk *walk, struct gigboda_
     size_t entered = walk->opening < walk->events_len ? walk->opening : gigboda_walk_outermost(walk, walk->event);
 
     step->sort = GIGBODA_STEP_ENTER;
-    step->kind = gigboda_event_kind(walk->events[entered]);
+    step->kind = gigboda_event_kind(gigboda_event_word(walk->events, entered));
     walk->depth++;
     if (entered == walk->event) {
         walk->opening = walk->events_len;
@@ -502,7 +535,7 @@ static inline int gigboda_walk_take(struct gigboda_walk *walk, struct gigboda_st
     if (walk->token >= walk->tokens_len)
         return 0;
     step->sort = GIGBODA_STEP_TOKEN;
-    step->kind = gigboda_event_kind(walk->events[walk->event++]);
+    step->kind = gigboda_event_kind(gigboda_event_word(walk->events, walk->event++));
     walk->end = walk->place + gigboda_token_length(walk->tokens[walk->token++]);
     walk->place = walk->end;
     step->end = walk->end;
@@ -524,7 +557,8 @@ static inline int gigboda_walk_leave(struct gigboda_walk *walk, struct gigboda_s
 /* Goes past a Start that another points to: its node is open already. */
 static inline void gigboda_walk_over_used(struct gigboda_walk *walk)
 {
-    if (walk->event < walk->events_len && gigboda_event_class(walk->events[walk->event]) == GIGBODA_CLASS_START
+    if (walk->event < walk->events_len
+        && gigboda_event_class(gigboda_event_word(walk->events, walk->event)) == GIGBODA_CLASS_START
         && gigboda_walk_inner(walk, walk->event) != walk->event)
         walk->event++;
 }
@@ -548,7 +582,7 @@ static inline int gigboda_walk_next(struct gigboda_walk *walk, struct gigboda_st
     if (walk->event >= walk->events_len)
         return 0;
     gigboda_walk_stands(walk, step);
-    switch (gigboda_event_class(walk->events[walk->event])) {
+    switch (gigboda_event_class(gigboda_event_word(walk->events, walk->event))) {
     case GIGBODA_CLASS_START:
         gigboda_walk_enter(walk, step);
         return 1;
@@ -558,7 +592,7 @@ static inline int gigboda_walk_next(struct gigboda_walk *walk, struct gigboda_st
         return gigboda_walk_leave(walk, step);
     case GIGBODA_CLASS_ERROR:
         step->sort = GIGBODA_STEP_ERROR;
-        step->message = gigboda_event_last(walk->events[walk->event++]);
+        step->message = gigboda_event_last(gigboda_event_word(walk->events, walk->event++));
         return 1;
     default:
         return 0;

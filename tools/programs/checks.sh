@@ -143,20 +143,21 @@ value() {
 }
 
 # The listing of `text` by 01's rule, from its bytes and the words of the answer to a record: columns go from character to character, each as
-# long as its first byte says.
+# long as its first byte says. Of an event's two words it needs the first; the token is counted, and if the second word has another number a line says so.
 listing() {
-    { od -An -v -tu1 "$text"; record 16384 8192 | "$reference"; } | awk '
+    { od -An -v -tu1 "$text"; record 16384 16384 | "$reference"; } | awk '
         /^ *[0-9]/ { for (i = 1; i <= NF; i++) byte[bytes++] = $i }
         $1 == "answer" { print ($2 ? "refused," $2 "," $3 : "event,class,kind,last,line,column") }
         $1 == "tokens" { line = column = 1
             for (i = 2; i <= NF; i++) { kind = int($i / 65536)
-                if (kind != 3 && kind != 4) spot[++spots] = line "," column
+                if (kind != 3 && kind != 4) { spot[++spots] = line "," column; number[spots] = i - 2 }
                 for (end += $i % 65536; at < end; at += b < 128 ? 1 : b < 224 ? 2 : b < 240 ? 3 : 4) { b = byte[at]
                     if (b == 10) { line++; column = 1 } else column++ } }
-            spot[++spots] = line "," column }
+            spot[++spots] = line "," column; number[spots] = NF - 1 }
         $1 == "events" { next_spot = 1
-            for (i = 2; i <= NF; i++) { class = int($i / 16777216)
-                print i - 2 "," substr("STFE", class + 1, 1) "," int($i / 65536) % 256 "," $i % 65536 "," spot[next_spot]
+            for (i = 2; i < NF; i += 2) { class = int($i / 16777216)
+                print i / 2 - 1 "," substr("STFE", class + 1, 1) "," int($i / 65536) % 256 "," $i % 65536 "," spot[next_spot]
+                if ($(i + 1) != number[next_spot]) print "token " $(i + 1) ", not " number[next_spot]
                 next_spot += class == 1 } }'
 }
 
@@ -180,15 +181,15 @@ answered() {
     gives "$name, the lines without words" sh -c '"$0" | grep -e ^answer -e ^rest -e ^left' "$replay" < "$input"
 }
 
-# A record of `text` with 40,000 words of each sort.
+# A record of `text` with 40,000 token words and 80,000 event words.
 answers() {
-    record 40000 40000 > "$input"
+    record 40000 80000 > "$input"
     answered "$@"
 }
 
 # The same of the tree call, with so many record words.
 answers_tree() {
-    tree 40000 40000 "$1" > "$input"
+    tree 40000 80000 "$1" > "$input"
     shift
     answered "$@"
 }

@@ -37,7 +37,7 @@ int main()
     tokens.resize(GIGBODA_MOST_BYTES);
     if (read(text, tokens, events).number != GIGBODA_REFUSAL_NO_EVENT_WORD)
         return 2;
-    events.resize(GIGBODA_MOST_EVENTS);
+    events.resize(GIGBODA_EVENT_WORDS * GIGBODA_MOST_EVENTS);
     gigboda_answer answer = read(text, tokens, events);
     gigboda_walk walk = gigboda_walk_of(&answer, tokens.data(), events.data());
     gigboda_step step;
@@ -51,16 +51,19 @@ int main()
     if (read_number(text, tokens, 6).inner_end != 1 || read_number(text, tokens, 7).length != 0)
         return 4;
     std::vector<uint32_t> records;
-    if (read_tree(text, tokens, events, records).answer.number != GIGBODA_REFUSAL_NO_RECORD)
+    if (gigboda_event_token(events.data(), 10) != 8
+        || gigboda_event_position(text.data(), text.size(), &answer, tokens.data(), events.data(), 10).column != 19)
         return 5;
+    if (read_tree(text, tokens, events, records).answer.number != GIGBODA_REFUSAL_NO_RECORD)
+        return 6;
     records.resize(GIGBODA_MOST_NODES * GIGBODA_RECORD_WORDS);
     gigboda_tree_answer tree = read_tree(text, tokens, events, records);
     std::string same;
     for (size_t node = 0; node < tree.records; node++)
         same += std::string(gigboda_kind_name(gigboda_record_of(records.data(), node).kind)) + ' ';
     if (same != kinds)
-        return 6;
-    if (read_value(text, tokens, events, 0).answer.number != GIGBODA_REFUSAL_NO_VALUE)
         return 7;
-    return read_value("properties A => 1; B => 2 * -3;", tokens, events, 1).value == -6 ? 0 : 8;
+    if (read_value(text, tokens, events, 0).answer.number != GIGBODA_REFUSAL_NO_VALUE)
+        return 8;
+    return read_value("properties A => 1; B => 2 * -3;", tokens, events, 1).value == -6 ? 0 : 9;
 }

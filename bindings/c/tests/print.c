@@ -2,8 +2,9 @@
  *
  *     print tables          the version; each kind, refusal and message in words
  *     print walks           for each section record of standard input the call's answer, and the steps through its tree
- *     print trees           for each the tree call's answer, with half as many record words lent as event words where the record does not
- *                           say how many; and each node's record, text, children, and the innermost node of its first token
+ *     print events          for each the events: class, kind and last, and the token with its place, line and column
+ *     print trees           for each the tree call's answer, with a fourth as many record words lent as event words where the record does
+ *                           not say how many; and each node's record, text, children, and the innermost node of its first token
  *     print values          for each the value call's answer: for the association that the record names, or else for the first
  *     print places          for each the line and column of every place of its text
  *     print numbers         for each the tokens of its text that are numbers, with their parts
@@ -13,11 +14,11 @@
 #include <stdio.h>
 #include <string.h>
 
-enum { MOST = 40000 }; /* of each number in a record */
+enum { MOST = 40000 }; /* bytes and tokens of a record; event words twice and record words four times as many */
 #define NONE 4294967295u /* the tokens-only call, the largest settings, or a record that says which call it asks for */
 
 static char text[MOST];
-static uint32_t tokens[MOST], events[MOST], records[GIGBODA_RECORD_WORDS * MOST];
+static uint32_t tokens[MOST], events[GIGBODA_EVENT_WORDS * MOST], records[GIGBODA_RECORD_WORDS * MOST];
 static uint32_t length, lent_tokens, lent_events, lent_records, association; /* of a record of standard input */
 
 static void print_tables(void)
@@ -60,6 +61,22 @@ static void print_walk(void)
     printf("%zu:%zu of %zu:%zu, %s\n", at.line, at.column, end.line, end.column,
            answer.number ? gigboda_refusal_text(answer.number) : gigboda_is_clean(&answer, tokens, events) ? "clean" : "not clean");
     print_steps(&answer);
+}
+
+static void print_events(void)
+{
+    struct gigboda_answer answer = gigboda_read_section(text, length, tokens, lent_tokens, events, lent_events);
+    size_t i;
+
+    printf("%zu %zu %zu\n", answer.number, answer.place, answer.events);
+    for (i = 0; i < answer.events; i++) {
+        uint32_t word = gigboda_event_word(events, i);
+        size_t token = gigboda_event_token(events, i);
+        struct gigboda_position at = gigboda_event_position(text, length, &answer, tokens, events, i);
+
+        printf("%u %u %u %zu %zu %zu:%zu\n", gigboda_event_class(word), gigboda_event_kind(word), gigboda_event_last(word), token,
+               gigboda_token_place(&answer, tokens, token), at.line, at.column);
+    }
 }
 
 static void print_node(const struct gigboda_tree_answer *tree, size_t node)
@@ -142,11 +159,11 @@ static int read_rest(void)
     else
         good = read_number(&call) && read_number(&settings) && read_number(&length) && read_number(&lent_tokens)
                && read_number(&lent_events) && read_number(&own);
-    lent_records = call == 1 ? own : lent_events / 2;
+    lent_records = call == 1 ? own : lent_events / 4;
     association = call == 6 ? own : 0;
     lent_events = call == 5 ? NONE : lent_events; /* a number's parts: no section */
     return good && (call <= 1 || call == 5 || call == 6) && settings == NONE && length <= MOST && lent_tokens <= MOST
-           && (lent_events == NONE || (lent_events <= MOST && lent_records <= GIGBODA_RECORD_WORDS * MOST))
+           && (lent_events == NONE || (lent_events <= GIGBODA_EVENT_WORDS * MOST && lent_records <= GIGBODA_RECORD_WORDS * MOST))
            && fread(text, 1, length, stdin) == length;
 }
 
@@ -168,6 +185,8 @@ int main(int count, char **arguments)
 {
     if (count == 2 && strcmp(arguments[1], "walks") == 0)
         return print_all(print_walk);
+    if (count == 2 && strcmp(arguments[1], "events") == 0)
+        return print_all(print_events);
     if (count == 2 && strcmp(arguments[1], "trees") == 0)
         return print_all(print_tree);
     if (count == 2 && strcmp(arguments[1], "values") == 0)

@@ -5,8 +5,10 @@
 #include <string.h>
 #include <time.h>
 
+enum { ENOUGH = GIGBODA_EVENT_WORDS * GIGBODA_MOST_EVENTS }; /* event words */
+
 static uint32_t tokens[GIGBODA_MOST_BYTES];
-static uint32_t events[2 * GIGBODA_MOST_EVENTS];
+static uint32_t events[2 * ENOUGH];
 static uint32_t records[GIGBODA_RECORD_WORDS * GIGBODA_MOST_NODES];
 static char text[GIGBODA_MOST_BYTES + 1];
 static char shown[1000];
@@ -34,12 +36,12 @@ static void check_same(const char *got, const char *wanted, int line)
 
 static struct gigboda_answer read_enough(const char *section)
 {
-    return gigboda_read_section(section, strlen(section), tokens, GIGBODA_MOST_BYTES, events, GIGBODA_MOST_EVENTS);
+    return gigboda_read_section(section, strlen(section), tokens, GIGBODA_MOST_BYTES, events, ENOUGH);
 }
 
 static struct gigboda_tree_answer read_tree_of(const char *section, size_t lent_records)
 {
-    return gigboda_read_tree(section, strlen(section), tokens, GIGBODA_MOST_BYTES, events, GIGBODA_MOST_EVENTS, records, lent_records);
+    return gigboda_read_tree(section, strlen(section), tokens, GIGBODA_MOST_BYTES, events, ENOUGH, records, lent_records);
 }
 
 /* An answer's numbers in a row. */
@@ -143,7 +145,7 @@ static void the_calls_answer(void)
     struct gigboda_part part;
 
     CHECK_SAME(numbers(read_enough(section)), "0 0 11 6 14");
-    CHECK(tokens[0] == 3932170 && events[1] == 20709377);
+    CHECK(tokens[0] == 3932170 && events[2] == 20709377 && events[3] == 0);
     part = gigboda_token_part(section, strlen(section), tokens, 11, 8);
     CHECK(part.start == 20 && part.length == 2);
     part = gigboda_token_part(section, strlen(section), tokens, 11, 11);
@@ -178,7 +180,7 @@ static void the_tree_call_answers(void)
 
     records[16] = 7;
     CHECK_SAME(tree_numbers(read_tree_of(section, 17)), "0 0 11 6 14, 4");
-    CHECK(tokens[0] == 3932170 && events[1] == 20709377 && records[16] == 7);
+    CHECK(tokens[0] == 3932170 && events[2] == 20709377 && records[16] == 7);
     CHECK_SAME(record(0), "PROPERTY_SECTION 0 0 6");
     CHECK_SAME(record(1), "PROPERTY_ASSOCIATION 0 1 5");
     CHECK_SAME(record(2), "PROPERTY_REF 1 1 1");
@@ -234,7 +236,7 @@ static void what_is_refused_1_to_6_is_not_refused_7(void)
     CHECK(records[0] == 0 && records[2] == 7);
     CHECK_SAME(tree_numbers(gigboda_read_tree("properties a", 12, tokens, 2, events, 8, records, 2)), "3 11 0 0 0, 0");
     CHECK_SAME(tree_numbers(gigboda_read_tree("none;", 5, tokens, 2, events, 8, records, 2)), "4 0 0 0 0, 0");
-    CHECK_SAME(tree_numbers(gigboda_read_tree("properties", 10, tokens, 2, events, 2, records, 2)), "5 10 0 0 0, 0");
+    CHECK_SAME(tree_numbers(gigboda_read_tree("properties", 10, tokens, 2, events, 5, records, 2)), "5 10 0 0 0, 0");
     make_text("properties A=>", "+", 65, "1;");
     CHECK_SAME(tree_numbers(read_tree_of(text, 2)), "6 78 0 0 0, 0");
 }
@@ -246,9 +248,9 @@ static void the_librarys_functions_keep_to_what_is_lent(void)
 
     gigboda_tokenize("a", 1, tokens, 1, answer, 3);
     CHECK(answer[0] == 0 && answer[1] == 0 && answer[2] == 1 && answer[3] == 7 && answer[4] == 7);
-    gigboda_property_tree("properties", 10, tokens, 1, events, 3, records, 4, answer, 5);
+    gigboda_property_tree("properties", 10, tokens, 1, events, 6, records, 4, answer, 5);
     CHECK(answer[2] == 1 && answer[3] == 1 && answer[4] == 3 && answer[5] == 7);
-    gigboda_property_tree("properties", 10, tokens, 1, events, 3, records, 4, answer, 7);
+    gigboda_property_tree("properties", 10, tokens, 1, events, 6, records, 4, answer, 7);
     CHECK(answer[4] == 3 && answer[5] == 1 && answer[6] == 7);
 }
 
@@ -267,7 +269,7 @@ static void null_with_length_0_is_allowed(void)
     CHECK_SAME(numbers(gigboda_read_section("properties", 10, NULL, 0, NULL, 0)), "3 0 0 0 0");
     CHECK_SAME(numbers(gigboda_read_section("properties", 10, tokens, 1, NULL, 0)), "5 0 0 0 0");
     CHECK_SAME(tree_numbers(gigboda_read_tree(NULL, 0, NULL, 0, NULL, 0, NULL, 0)), "4 0 0 0 0, 0");
-    CHECK_SAME(tree_numbers(gigboda_read_tree("properties", 10, tokens, 1, events, 3, NULL, 0)), "7 0 0 0 0, 0");
+    CHECK_SAME(tree_numbers(gigboda_read_tree("properties", 10, tokens, 1, events, 6, NULL, 0)), "7 0 0 0 0, 0");
     CHECK_SAME(value_numbers(gigboda_read_value(NULL, 0, NULL, 0, NULL, 0, 0)), "4 0 0 0 0, 0");
     CHECK_SAME(value_numbers(gigboda_read_value("properties", 10, tokens, 1, NULL, 0, 0)), "5 0 0 0 0, 0");
     CHECK_SAME(numbers(gigboda_read_tokens(NULL, 0, NULL, 0)), "0 0 0 0 0");
@@ -394,7 +396,7 @@ static void parts_keep_to_what_is_lent(void)
 
 static struct gigboda_value_answer read_value_of(const char *section, size_t association)
 {
-    return gigboda_read_value(section, strlen(section), tokens, GIGBODA_MOST_BYTES, events, GIGBODA_MOST_EVENTS, association);
+    return gigboda_read_value(section, strlen(section), tokens, GIGBODA_MOST_BYTES, events, ENOUGH, association);
 }
 
 /* The value of a section's only association, or the refusal's number and place. The association is at 11, its value at 16. */
@@ -473,16 +475,16 @@ static void values_leave_the_sections_words(void)
 {
     const char *section = "properties A => 1 - 3;";
 
-    tokens[12] = tokens[13] = events[19] = events[20] = 7;
-    CHECK_SAME(value_numbers(gigboda_read_value(section, 22, tokens, 13, events, 20, 0)), "0 0 12 7 19, -2");
-    CHECK(tokens[0] == 3932170 && events[1] == 20709377 && tokens[12] == 7 && events[19] == 7);
-    CHECK_SAME(value_numbers(gigboda_read_value(section, 22, tokens, 13, events, 20, 1)), "9 22 0 0 0, 0");
-    CHECK(is_zero_up_to(tokens, 13) && is_zero_up_to(events, 20));
+    tokens[12] = tokens[13] = events[38] = events[39] = 7;
+    CHECK_SAME(value_numbers(gigboda_read_value(section, 22, tokens, 13, events, 39, 0)), "0 0 12 7 19, -2");
+    CHECK(tokens[0] == 3932170 && events[2] == 20709377 && tokens[12] == 7 && events[38] == 7);
+    CHECK_SAME(value_numbers(gigboda_read_value(section, 22, tokens, 13, events, 39, 1)), "9 22 0 0 0, 0");
+    CHECK(is_zero_up_to(tokens, 13) && is_zero_up_to(events, 39));
     section = "properties A => 9223372036854775808;";
     memset(tokens, 255, 13 * sizeof tokens[0]);
-    memset(events, 255, 20 * sizeof events[0]);
-    CHECK_SAME(value_numbers(gigboda_read_value(section, 36, tokens, 13, events, 20, 0)), "10 16 0 0 0, 0");
-    CHECK(is_zero_up_to(tokens, 13) && is_zero_up_to(events, 20));
+    memset(events, 255, 39 * sizeof events[0]);
+    CHECK_SAME(value_numbers(gigboda_read_value(section, 36, tokens, 13, events, 39, 0)), "10 16 0 0 0, 0");
+    CHECK(is_zero_up_to(tokens, 13) && is_zero_up_to(events, 39));
 }
 
 /* Each of these has no association 7, either. */
@@ -493,7 +495,7 @@ static void what_is_refused_1_to_8_is_not_refused_9(void)
     CHECK_SAME(value_numbers(gigboda_read_value("properties a", 12, tokens, 2, events, 8, 7)), "3 11 0 0 0, 0");
     CHECK_SAME(value_numbers(gigboda_read_value("properties \"", 12, tokens, 8, events, 0, 7)), "8 11 0 0 0, 0");
     CHECK_SAME(value_numbers(gigboda_read_value("none;", 5, tokens, 2, events, 0, 7)), "4 0 0 0 0, 0");
-    CHECK_SAME(value_numbers(gigboda_read_value("properties", 10, tokens, 2, events, 2, 7)), "5 10 0 0 0, 0");
+    CHECK_SAME(value_numbers(gigboda_read_value("properties", 10, tokens, 2, events, 5, 7)), "5 10 0 0 0, 0");
     make_text("properties A=>", "+", 65, "1;");
     CHECK_SAME(value_numbers(read_value_of(text, 7)), "6 78 0 0 0, 0");
 }
@@ -541,14 +543,102 @@ static void more_than_most_events_words_do_not_help(void)
 {
     size_t length = make_text("properties a=>1 s,1 s,1 s", ",1", 8186, ";");
 
-    CHECK_SAME(numbers(gigboda_read_section(text, length, tokens, GIGBODA_MOST_BYTES, events, GIGBODA_MOST_EVENTS)),
-               "0 0 16388 16384 32768");
+    events[ENOUGH] = 7;
+    CHECK_SAME(numbers(gigboda_read_section(text, length, tokens, GIGBODA_MOST_BYTES, events, ENOUGH)), "0 0 16388 16384 32768");
+    CHECK_SAME(numbers(gigboda_read_section(text, length, tokens, GIGBODA_MOST_BYTES, events, ENOUGH + 1)), "0 0 16388 16384 32768");
+    CHECK(gigboda_event_token(events, GIGBODA_MOST_EVENTS - 1) == 16388 && events[ENOUGH] == 7);
+    CHECK(gigboda_read_section(text, length, tokens, GIGBODA_MOST_BYTES, events, ENOUGH - 1).number == 5);
     length = make_text("properties a=>1 s,1 s,1 s,1 s", ",1", 8185, ";");
-    CHECK(gigboda_read_section(text, length, tokens, GIGBODA_MOST_BYTES, events, 2 * GIGBODA_MOST_EVENTS).number == 5);
+    CHECK(gigboda_read_section(text, length, tokens, GIGBODA_MOST_BYTES, events, 2 * ENOUGH).number == 5);
     length = make_text("properties a=>", "1,", 16377, "");
     CHECK(length == GIGBODA_MOST_BYTES);
-    CHECK(gigboda_read_section(text, length, tokens, GIGBODA_MOST_BYTES, events, GIGBODA_MOST_EVENTS).number == 5);
-    CHECK(gigboda_read_section(text, length, tokens, GIGBODA_MOST_BYTES, events, 2 * GIGBODA_MOST_EVENTS).number == 5);
+    CHECK(gigboda_read_section(text, length, tokens, GIGBODA_MOST_BYTES, events, ENOUGH).number == 5);
+    CHECK(gigboda_read_section(text, length, tokens, GIGBODA_MOST_BYTES, events, 2 * ENOUGH).number == 5);
+}
+
+/* ---- The tokens of events ---- */
+
+/* The token of each event in a row. */
+static const char *event_tokens(const char *section)
+{
+    struct gigboda_answer answer = read_enough(section);
+    char *at = shown;
+    size_t i;
+
+    *at = '\0';
+    for (i = 0; i < answer.events; i++)
+        at += sprintf(at, "%s%zu", i > 0 ? " " : "", gigboda_event_token(events, i));
+    return shown;
+}
+
+/* A Token has its own, all others the next one's; at the end it is how many there are, spaces and comments too. */
+static void events_have_their_tokens(void)
+{
+    CHECK_SAME(event_tokens("properties"), "0 0 1");
+    CHECK_SAME(event_tokens(" properties none; -- end"), "1 1 3 4 7");
+    CHECK_SAME(event_tokens("properties\n  A => 1 ms;\n"), "0 0 2 2 2 4 4 6 6 8 9 9 11 11");
+    CHECK_SAME(event_tokens("properties A => ; }"), "0 0 2 2 2 4 4 6 6 8 8");
+    CHECK_SAME(event_tokens("properties A 1 applies to "), "0 0 2 2 2 4 4 4 4 6 6 6 8 10 10 10 10 10 10");
+    CHECK_SAME(event_tokens("none;"), "");
+}
+
+/* The Start that is put around `1` has the token behind it; completing that node and the one within leaves each Start its token. */
+static void preceding_and_completing_leave_tokens(void)
+{
+    CHECK_SAME(event_tokens("properties A => 1 .. 2;"), "0 0 2 2 2 4 4 6 6 8 8 8 10 10 11 11 11 12 12");
+    CHECK(gigboda_event_word(events, 7) == GIGBODA_KIND_INTEGER_VALUE * 65536 + 3 && gigboda_event_token(events, 7) == 6);
+    CHECK(gigboda_event_word(events, 10) == GIGBODA_KIND_RANGE_VALUE * 65536 && gigboda_event_token(events, 10) == 8);
+}
+
+/* Fewer than two words have room for no event: an odd last word is like none, and stays as it was. */
+static void an_odd_event_word_is_not_used(void)
+{
+    const char *section = "properties A => 1;";
+    size_t lent;
+
+    for (lent = 0; lent < 26; lent++) {
+        memset(events, 255, 30 * sizeof events[0]);
+        events[lent] = 7;
+        CHECK(gigboda_read_section(section, 18, tokens, 8, events, lent).number == GIGBODA_REFUSAL_NO_EVENT_WORD);
+        CHECK(is_zero_up_to(events, lent));
+    }
+    for (lent = 26; lent < 29; lent++) {
+        memset(events, 255, 30 * sizeof events[0]);
+        CHECK_SAME(numbers(gigboda_read_section(section, 18, tokens, 8, events, lent)), "0 0 8 5 13");
+        CHECK(events[25] == 8 && events[26] == UINT32_MAX && events[27] == UINT32_MAX);
+    }
+    CHECK_SAME(numbers(gigboda_read_section(section, 18, tokens, 8, events, 1)), "5 0 0 0 0");
+    CHECK_SAME(numbers(gigboda_read_section(section, 18, tokens, 8, events, 5)), "5 11 0 0 0");
+    CHECK_SAME(numbers(gigboda_read_section(section, 18, tokens, 8, events, 25)), "5 18 0 0 0");
+}
+
+/* 01's printed listing. */
+static void events_have_lines_and_columns(void)
+{
+    static const size_t wanted[][2] = {{1, 1}, {1, 1}, {2, 3}, {2, 3}, {2, 3},  {2, 5},  {2, 5},
+                                       {2, 8}, {2, 8}, {2, 10}, {2, 12}, {2, 12}, {3, 1}, {3, 1}};
+    const char *section = "properties\n  A => 1 ms;\n";
+    struct gigboda_answer answer = read_enough(section);
+    size_t i;
+
+    CHECK(answer.events == COUNT(wanted));
+    for (i = 0; i < COUNT(wanted); i++) {
+        struct gigboda_position at = gigboda_event_position(section, strlen(section), &answer, tokens, events, i);
+
+        sprintf(shown, "event %zu is at %zu:%zu", i, wanted[i][0], wanted[i][1]);
+        check(at.line == wanted[i][0] && at.column == wanted[i][1], shown, __LINE__);
+    }
+}
+
+/* Whether tokens start where they do in the text; the text's end for one that is not there. */
+static void tokens_have_places(void)
+{
+    const char *section = " properties A";
+    struct gigboda_answer answer = read_enough(section);
+
+    CHECK(gigboda_token_place(&answer, tokens, 0) == 0 && gigboda_token_place(&answer, tokens, 1) == 1);
+    CHECK(gigboda_token_place(&answer, tokens, 3) == 12 && gigboda_token_place(&answer, tokens, 4) == 13);
+    CHECK(gigboda_token_place(&answer, tokens, SIZE_MAX) == 13);
 }
 
 /* ---- Places, clean answers ---- */
@@ -678,10 +768,36 @@ static void steps_say_where_they_are(void)
     CHECK(i == COUNT(wanted) && !gigboda_walk_next(&walk, &step));
 }
 
+/* Holds the steps through the tree of what stands in `text`, which count tokens, against the events' tokens: a step's is its event's, an
+ * ENTER's that of the Start with which its chain begins. While a chain is opened that is the walk's next event. */
+static void check_step_tokens(size_t length)
+{
+    struct gigboda_answer answer = gigboda_read_section(text, length, tokens, GIGBODA_MOST_BYTES, events, ENOUGH);
+    struct gigboda_walk walk = gigboda_walk_of(&answer, tokens, events);
+    struct gigboda_step step;
+    size_t steps;
+    int same = 1;
+
+    for (steps = 0; gigboda_walk_next(&walk, &step); steps++) {
+        size_t token = gigboda_event_token(events, walk.opening < walk.events_len ? walk.event : walk.event - 1);
+
+        same &= step.token == token && step.place == gigboda_token_place(&answer, tokens, token);
+    }
+    CHECK(answer.number == 0 && steps == answer.events && same);
+}
+
+static void steps_have_the_tokens_of_events(void)
+{
+    check_step_tokens(make_text("properties", " A => -1 + 2 * (3, [b => not x .. 4;]) .. 5 delta 6 applies to ;", 3, "-- end\n"));
+    check_step_tokens(make_text("properties", " A => 1 + + 2 ( ] B ::; C => 0x1F applies to ,", 3, ""));
+    check_step_tokens(make_text(" -- first\nproperties a=>1", "+  1  ", 200, ";"));
+    check_step_tokens(make_text("properties a=>1", "* ", 200, ""));
+}
+
 /* Walks through the tree of what stands in `text`; the greatest depth. Every event gives one step, also a Start whose node opens early. */
 static size_t walk_text(size_t length)
 {
-    struct gigboda_answer answer = gigboda_read_section(text, length, tokens, GIGBODA_MOST_BYTES, events, GIGBODA_MOST_EVENTS);
+    struct gigboda_answer answer = gigboda_read_section(text, length, tokens, GIGBODA_MOST_BYTES, events, ENOUGH);
     struct gigboda_walk walk = gigboda_walk_of(&answer, tokens, events);
     struct gigboda_step step = {GIGBODA_STEP_ENTER, 0, 0, 0, 0, 0, 0};
     size_t steps = 0, most = 0;
@@ -763,7 +879,7 @@ static void any_words_are_walked_to_an_end(void)
     for (round = 0; round < 5000; round++) {
         struct gigboda_answer answer = {0, 0, round % 7, 0, round % 40};
         uint32_t *some_tokens = any_words(answer.tokens, 6, 65536);
-        uint32_t *some_events = any_words(answer.events, 4, 16777216);
+        uint32_t *some_events = any_words(GIGBODA_EVENT_WORDS * answer.events, 4, 16777216);
         struct gigboda_walk walk = gigboda_walk_of(&answer, some_tokens, some_events);
         struct gigboda_step step;
 
@@ -782,7 +898,7 @@ static void any_words_are_walked_to_an_end(void)
 /* Holds the records of what stands in `text` against the walk, which needs no memory: a node's parent is the last one open. */
 static void check_records(size_t length)
 {
-    struct gigboda_tree_answer tree = gigboda_read_tree(text, length, tokens, GIGBODA_MOST_BYTES, events, GIGBODA_MOST_EVENTS, records,
+    struct gigboda_tree_answer tree = gigboda_read_tree(text, length, tokens, GIGBODA_MOST_BYTES, events, ENOUGH, records,
                                                         GIGBODA_RECORD_WORDS * GIGBODA_MOST_NODES);
     struct gigboda_walk walk = gigboda_walk_of(&tree.answer, tokens, events);
     struct gigboda_step step;
@@ -950,12 +1066,18 @@ static const struct {
     TEST(values_keep_to_what_is_lent),
     TEST(with_most_bytes_token_words_no_text_is_refused_3),
     TEST(more_than_most_events_words_do_not_help),
+    TEST(events_have_their_tokens),
+    TEST(preceding_and_completing_leave_tokens),
+    TEST(an_odd_event_word_is_not_used),
+    TEST(events_have_lines_and_columns),
+    TEST(tokens_have_places),
     TEST(places_have_lines_and_columns),
     TEST(columns_count_characters),
     TEST(what_is_clean),
     TEST(trees_are_walked),
     TEST(forward_parents_are_followed),
     TEST(steps_say_where_they_are),
+    TEST(steps_have_the_tokens_of_events),
     TEST(long_chains_take_little_time),
     TEST(deep_nests_take_little_time),
     TEST(any_words_are_walked_to_an_end),

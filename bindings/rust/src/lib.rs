@@ -3,14 +3,15 @@
 //! that `rt staticlib capi` writes, where build.rs finds it; a Cargo.toml names it by its folder, `gigboda = { path = "bindings/rust" }`.
 //!
 //! A section's tree is gone through step by step with [`Section::nodes`]; a [`Tree`] has a record for each node, from which its parent, its
-//! children and its text are found without the events. [`number_parts`] tells base, digits and exponent of a number, and [`association_value`]
+//! children and its text are found without the events. Each event knows its token ([`Pushed`]), and so does each step and each node: its line
+//! and column are [`Section::token_position`]'s. [`number_parts`] tells base, digits and exponent of a number, and [`association_value`]
 //! computes sums and products.
 //!
 //! ```
 //! use gigboda::Node;
 //!
 //! let text = b"properties\n  A => 1 ms\n";
-//! let (mut tokens, mut events) = (vec![0; gigboda::MOST_BYTES], vec![0; gigboda::MOST_EVENTS]);
+//! let (mut tokens, mut events) = (vec![0; gigboda::MOST_BYTES], vec![0; gigboda::EVENT_WORDS * gigboda::MOST_EVENTS]);
 //! let mut told = Vec::new();
 //! match gigboda::property_section(text, &mut tokens, &mut events) {
 //!     Err(refused) => told.push(format!("{}: {refused}", refused.position(text))),
@@ -50,9 +51,12 @@ pub use tree::{Mistake, Record, Tree};
 /// Most bytes of a text. A token has at least one: with as many token words no text is refused 3.
 pub const MOST_BYTES: usize = 32_768;
 
-/// Most event words that are used. With as many a text is refused 5 only if its section has more events than that, and more words do not
-/// help: `properties a=>` and 16,377 times `1,` is refused 5 whatever is lent.
+/// Most events that are read. With [`EVENT_WORDS`] times as many event words a text is refused 5 only if its section has more events than
+/// that, and more words do not help: `properties a=>` and 16,377 times `1,` is refused 5 whatever is lent.
 pub const MOST_EVENTS: usize = 32_768;
+
+/// Words of an event. An odd word at the end of those that are lent is never used.
+pub const EVENT_WORDS: usize = 2;
 
 /// Most nodes of a tree: each has two events, a Start and a Finish. With [`Tree::RECORD`] times as many record words no text is refused 7.
 pub const MOST_NODES: usize = MOST_EVENTS / 2;
@@ -64,7 +68,8 @@ pub struct Token {
     pub range: Range<usize>,
 }
 
-/// An event. A Start with a forward parent opens inside the node of the Start that stands so many events further on.
+/// What an event is, by its first word. A Start with a forward parent opens inside the node of the Start that stands so many events further
+/// on.
 #[derive(Debug, Clone, Copy, PartialEq, Eq)]
 pub enum Event {
     Start { kind: Kind, forward_parent: Option<u16> },
@@ -74,7 +79,7 @@ pub enum Event {
 }
 
 impl Event {
-    /// The event in a word, if there is such a class, kind or message.
+    /// The event in a first word, if there is such a class, kind or message.
     ///
     /// ```
     /// use gigboda::{Event, Kind};
@@ -92,6 +97,47 @@ impl Event {
             _ => None,
         }
     }
+}
+
+/// An event and its token, as its two words have them.
+///
+/// A node's first token, or the next one if it has none, is that of the Start at which the node opens: of the first Start of its chain. The node
+/// of a range, a sum or a product is put around its first operand when that one is read, so that its own Start has the token behind that
+/// operand:
+///
+/// ```
+/// use gigboda::{Event, Kind, Node, Pushed};
+///
+/// let (mut tokens, mut events) = ([0; 32], [0; 64]);
+/// let section = gigboda::property_section(b"properties\n A => 1\n .. 2;", &mut tokens, &mut events).unwrap();
+/// let one = section.event(7).unwrap();
+/// assert_eq!(one, Pushed { event: Event::Start { kind: Kind::INTEGER_VALUE, forward_parent: Some(3) }, token: 6 });
+/// let range = section.event(10).unwrap();
+/// assert_eq!(range, Pushed { event: Event::Start { kind: Kind::RANGE_VALUE, forward_parent: None }, token: 8 });
+/// assert_eq!(section.token_position(range.token).to_string(), "line 3, column 2");
+/// // The range opens at the first Start, before the `1`.
+/// let entered = section.nodes().find(|step| step.node == Node::Enter(Kind::RANGE_VALUE)).unwrap();
+/// assert_eq!(entered.token, one.token);
+/// assert_eq!(section.token_position(entered.token).to_string(), "line 2, column 7");
+/// ```
+#[derive(Debug, Clone, Copy, PartialEq, Eq)]
+pub struct Pushed {
+    pub event: Event,
+    /// A Token's number among all tokens, from 0, trivia too. Of any other event the next one's, trivia left out, that was not taken when it
+    /// was pushed, or how many tokens there are. It never falls from event to event.
+    pub token: usize,
+}
+
+impl Pushed {
+    /// The event and its token in two words, if there is such an event.
+    pub fn of([word, token]: [u32; EVENT_WORDS]) -> Option<Pushed> {
+        Some(Pushed { event: Event::of(word)?, token: token as usize })
+    }
+}
+
+/// The words of the event with a number, if there are both.
+fn event_pair(words: &[u32], number: usize) -> Option<[u32; EVENT_WORDS]> {
+    words.chunks_exact(EVENT_WORDS).nth(number)?.try_into().ok()
 }
 
 /// The refusal that an answer's number and place tell, if they do. A number that is none of the table's belongs to another library.
@@ -121,12 +167,12 @@ pub fn tokenize<'a>(text: &[u8], tokens: &'a mut [u32]) -> Result<&'a [u32], Ref
     Ok(&tokens[..count])
 }
 
-/// Reads a property section: tokens and events into lent words, of which those that are not filled stay as they were. A refusal leaves
-/// all of them 0.
+/// Reads a property section: tokens and events into lent words, two for each event. Those that are not filled stay as they were, an odd
+/// last event word among them. A refusal leaves all of them 0.
 pub fn property_section<'a>(text: &'a [u8], tokens: &'a mut [u32], events: &'a mut [u32]) -> Result<Section<'a>, Refused> {
     let [number, place, count, taken, pushed] = calls::section(text, tokens, events);
     refused(number, place)?;
-    Ok(Section { text, token_words: &tokens[..count], event_words: &events[..pushed], taken })
+    Ok(Section { text, token_words: &tokens[..count], event_words: &events[..EVENT_WORDS * pushed], taken })
 }
 
 /// Reads a property section as [`property_section`] does, and its tree: a record for each node into lent words, four words each. Words that
@@ -147,7 +193,7 @@ pub fn property_tree<'a>(
 ) -> Result<Tree<'a>, Refused> {
     let [number, place, count, taken, pushed, nodes] = calls::tree(text, tokens, events, records);
     refused(number, place)?;
-    let section = Section { text, token_words: &tokens[..count], event_words: &events[..pushed], taken };
+    let section = Section { text, token_words: &tokens[..count], event_words: &events[..EVENT_WORDS * pushed], taken };
     Ok(Tree { section, record_words: &records[..Tree::RECORD * nodes] })
 }
 
@@ -157,7 +203,7 @@ pub fn property_tree<'a>(
 /// refusal leaves all of them 0.
 ///
 /// ```
-/// let (mut tokens, mut events) = ([7; 64], [7; 64]);
+/// let (mut tokens, mut events) = ([7; 64], [7; 128]);
 /// let text = b"properties Validity => 365 * 24 + 16#C#; Grace => 30 days; Most => 9223372036854775807 + 1;";
 /// let mut value = |number| gigboda::association_value(text, &mut tokens, &mut events, number);
 /// assert_eq!(value(0), Ok(8_772));
@@ -200,6 +246,7 @@ pub fn tokens(words: &[u32]) -> impl Iterator<Item = Token> + '_ {
 pub struct Section<'a> {
     pub text: &'a [u8],
     pub token_words: &'a [u32],
+    /// Two for each event.
     pub event_words: &'a [u32],
     /// How many tokens, trivia not counted, the section takes.
     pub taken: usize,
@@ -211,9 +258,34 @@ impl<'a> Section<'a> {
         tokens(self.token_words)
     }
 
-    /// The events as they were pushed.
-    pub fn events(&self) -> impl Iterator<Item = Event> + 'a {
-        self.event_words.iter().map_while(|word| Event::of(*word))
+    /// The events as they were pushed, each with its token.
+    pub fn events(&self) -> impl Iterator<Item = Pushed> + 'a {
+        let section = *self;
+        (0..).map_while(move |number| section.event(number))
+    }
+
+    /// The event with a number, from 0, and its token.
+    pub fn event(&self, number: usize) -> Option<Pushed> {
+        Pushed::of(event_pair(self.event_words, number)?)
+    }
+
+    /// Where the token with a number starts, trivia counted too, as in [`Pushed::token`] and [`Step::token`]; the text's end for as many as
+    /// there are.
+    ///
+    /// ```
+    /// let (mut tokens, mut events) = ([0; 32], [0; 32]);
+    /// let section = gigboda::property_section(b"properties\n  A => 1 ms;\n", &mut tokens, &mut events).unwrap();
+    /// let places: Vec<usize> = section.events().map(|pushed| section.token_place(pushed.token)).collect();
+    /// assert_eq!(places, [0, 0, 13, 13, 13, 15, 15, 18, 18, 20, 22, 22, 24, 24]);
+    /// assert_eq!(section.token_position(section.event(9).unwrap().token).to_string(), "line 2, column 10");
+    /// ```
+    pub fn token_place(&self, token: usize) -> usize {
+        self.token_words.iter().take(token).map(|word| (word % 65_536) as usize).sum()
+    }
+
+    /// Line and column of the token with a number, or of the text's end: for an event's those that `list` prints.
+    pub fn token_position(&self, token: usize) -> Position {
+        self.position(self.token_place(token))
     }
 
     /// The tree that the events spell, in the text's order.
@@ -237,8 +309,8 @@ impl<'a> Section<'a> {
     /// Whether there is no Error and every token is taken: exactly when the section grammar derives the text.
     pub fn is_clean(&self) -> bool {
         let whole = self.token_words.iter().filter(|word| !is_trivia(**word)).count();
-        let is_good = |word: &u32| !matches!(Event::of(*word), None | Some(Event::Error { .. }));
-        whole == self.taken && self.event_words.iter().all(is_good)
+        let is_good = |pair: &[u32]| !matches!(Event::of(pair[0]), None | Some(Event::Error { .. }));
+        whole == self.taken && self.event_words.chunks_exact(EVENT_WORDS).all(is_good)
     }
 }
 

@@ -1,6 +1,6 @@
 //! The tree that events spell. A Start with a forward parent opens inside the node of the Start it points to, chains outermost first; a
 //! Start so used opens nothing again. A Token is a leaf; a Finish closes the innermost node.
-use crate::{is_trivia, Event, Kind, Message};
+use crate::{event_pair, is_trivia, Event, Kind, Message, EVENT_WORDS};
 
 /// What a step through the tree meets.
 #[derive(Debug, Clone, Copy, PartialEq, Eq)]
@@ -22,7 +22,8 @@ pub struct Step {
     pub node: Node,
     /// How many nodes are around the node, the token or the message.
     pub depth: usize,
-    /// A Token's number among all tokens, from 0; else the next one's that is not taken, or how many there are.
+    /// A Token's number among all tokens, from 0; else the next one's that is not taken, or how many there are. So an `Enter` has its node's
+    /// first token.
     pub token: usize,
     /// Where that token starts, or the text's end.
     pub place: usize,
@@ -85,8 +86,14 @@ pub struct Nodes<'a> {
 
 impl<'a> Nodes<'a> {
     pub(crate) fn new(token_words: &'a [u32], event_words: &'a [u32]) -> Nodes<'a> {
-        let used = vec![false; event_words.len()];
+        let used = vec![false; event_words.len() / EVENT_WORDS];
         Nodes { words: event_words, at: 0, used, opening: Vec::new(), depth: 0, ahead: Ahead::new(token_words) }
+    }
+
+    /// The event with a number, without its token.
+    fn event(&self, number: usize) -> Option<Event> {
+        let [word, _] = event_pair(self.words, number)?;
+        Event::of(word)
     }
 
     /// Follows the chain of Starts that begins at an event, unless the event was used.
@@ -95,7 +102,7 @@ impl<'a> Nodes<'a> {
             return;
         }
         let mut at = start;
-        while let Some(Event::Start { kind, forward_parent }) = self.words.get(at).and_then(|word| Event::of(*word)) {
+        while let Some(Event::Start { kind, forward_parent }) = self.event(at) {
             self.used[at] = true;
             self.opening.push(kind);
             match forward_parent {
@@ -112,7 +119,7 @@ impl<'a> Nodes<'a> {
                 self.depth += 1;
                 return Some(Node::Enter(kind));
             }
-            let event = Event::of(*self.words.get(self.at)?)?;
+            let event = self.event(self.at)?;
             self.at += 1;
             match event {
                 Event::Start { .. } => self.open(self.at - 1),

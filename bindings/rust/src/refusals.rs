@@ -13,7 +13,7 @@ pub enum Refusal {
     NoTokenWord = 3,
     /// The first token that is not trivia is not `properties`; the place is its start, or the text's length.
     NoProperties = 4,
-    /// No event word left; the place is the start of the next token that is not taken, or the text's length.
+    /// Fewer than two event words left; the place is the start of the next token that is not taken, or the text's length.
     NoEventWord = 5,
     /// A 65th open `(`, `[`, `not` or sign; the place is its start.
     TooDeep = 6,

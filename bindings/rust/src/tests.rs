@@ -1,9 +1,12 @@
 //! The tree of small texts, written with a bracket and the kind for each node, the text for each token, and a message's number; refusals,
-//! parts of numbers, values, places and limits.
+//! tokens of events, parts of numbers, values, places and limits.
 use super::*;
 
+/// As many event words as can be used.
+const ENOUGH: usize = EVENT_WORDS * MOST_EVENTS;
+
 fn shape(text: &str) -> String {
-    let (mut tokens, mut events) = (vec![0; 256], vec![0; 256]);
+    let (mut tokens, mut events) = (vec![0; 256], vec![0; 512]);
     let section = property_section(text.as_bytes(), &mut tokens, &mut events).expect("not refused");
     let mut out = String::new();
     for step in section.nodes() {
@@ -65,11 +68,115 @@ fn not_holds_the_range() {
 
 #[test]
 fn forward_parents_are_as_01_says() {
-    let (mut tokens, mut events) = ([0; 32], [0; 32]);
+    let (mut tokens, mut events) = ([0; 32], [0; 64]);
     let section = property_section(b"properties A => 1 .. 2;", &mut tokens, &mut events).expect("not refused");
     assert_eq!(section.events().count(), 19);
-    assert_eq!(section.events().nth(7), Some(Event::Start { kind: Kind::INTEGER_VALUE, forward_parent: Some(3) }));
+    assert_eq!(section.event(7).map(|p| p.event), Some(Event::Start { kind: Kind::INTEGER_VALUE, forward_parent: Some(3) }));
     assert!(section.is_clean());
+}
+
+/// The token of each event.
+fn event_tokens(text: &str) -> Vec<usize> {
+    let (mut tokens, mut events) = (vec![0; 256], vec![0; 512]);
+    let section = property_section(text.as_bytes(), &mut tokens, &mut events).expect("not refused");
+    section.events().map(|pushed| pushed.token).collect()
+}
+
+/// A Token has its own, all others the next one's; at the end it is how many there are, trivia too.
+#[test]
+fn events_have_their_tokens() {
+    assert_eq!(event_tokens("properties"), [0, 0, 1]);
+    assert_eq!(event_tokens(" properties none; -- end"), [1, 1, 3, 4, 7]);
+    assert_eq!(event_tokens("properties\n  A => 1 ms;\n"), [0, 0, 2, 2, 2, 4, 4, 6, 6, 8, 9, 9, 11, 11]);
+    assert_eq!(event_tokens("properties A => ; }"), [0, 0, 2, 2, 2, 4, 4, 6, 6, 8, 8]);
+    assert_eq!(event_tokens("properties A 1 applies to "), [0, 0, 2, 2, 2, 4, 4, 4, 4, 6, 6, 6, 8, 10, 10, 10, 10, 10, 10]);
+}
+
+/// The Starts that are put around `1` have the tokens behind it and behind the product; completing these nodes leaves each Start its token.
+#[test]
+fn preceding_and_completing_leave_tokens() {
+    let (mut tokens, mut events) = ([0; 32], [0; 64]);
+    let section = property_section(b"properties A => 1 * 2 .. 3;", &mut tokens, &mut events).expect("not refused");
+    let starts = section.events().filter_map(|p| if let Event::Start { kind, .. } = p.event { Some((kind, p.token)) } else { None });
+    let wanted = [
+        (Kind::PROPERTY_SECTION, 0),
+        (Kind::PROPERTY_ASSOCIATION, 2),
+        (Kind::PROPERTY_REF, 2),
+        (Kind::INTEGER_VALUE, 6),
+        (Kind::BINARY_EXPR, 8),
+        (Kind::INTEGER_VALUE, 10),
+        (Kind::RANGE_VALUE, 12),
+        (Kind::INTEGER_VALUE, 14),
+    ];
+    assert!(starts.eq(wanted));
+    let entered = section.nodes().filter_map(|step| if let Node::Enter(kind) = step.node { Some((kind, step.token)) } else { None });
+    let wanted = [
+        (Kind::PROPERTY_SECTION, 0),
+        (Kind::PROPERTY_ASSOCIATION, 2),
+        (Kind::PROPERTY_REF, 2),
+        (Kind::RANGE_VALUE, 6),
+        (Kind::BINARY_EXPR, 6),
+        (Kind::INTEGER_VALUE, 6),
+        (Kind::INTEGER_VALUE, 10),
+        (Kind::INTEGER_VALUE, 14),
+    ];
+    assert!(entered.eq(wanted));
+}
+
+/// Fewer than two words have room for no event: an odd last word is like none, and stays as it was.
+#[test]
+fn an_odd_event_word_is_not_used() {
+    let text = b"properties A => 1;";
+    let call = |lent: usize| {
+        let (mut tokens, mut events) = (vec![7; 8], vec![7; lent]);
+        let read = property_section(text, &mut tokens, &mut events).map(|section| section.events().count());
+        (read.map_err(|r| (r.refusal, r.place)), events)
+    };
+    let refused = |place| Err((Refusal::NoEventWord, place));
+    for (lent, place) in [(0, 0), (1, 0), (2, 0), (3, 0), (4, 11), (5, 11), (24, 18), (25, 18)] {
+        assert_eq!(call(lent), (refused(place), vec![0; lent]), "{lent} words");
+    }
+    for lent in [26, 27, 28] {
+        let (read, events) = call(lent);
+        assert_eq!((read, events[25], events[26..].to_vec()), (Ok(13), 8, vec![7; lent - 26]));
+    }
+}
+
+/// Words that no call left: an event without its second word is none.
+#[test]
+fn any_event_words_are_taken_apart() {
+    let section = Section { text: b"", token_words: &[], event_words: &[11_075_584, 9, 33_554_432], taken: 0 };
+    let start = Pushed { event: Event::Start { kind: Kind::PROPERTY_SECTION, forward_parent: None }, token: 9 };
+    assert!(section.events().eq([start]));
+    assert_eq!((section.event(1), section.event(usize::MAX)), (None, None));
+    assert_eq!(section.nodes().count(), 1);
+    assert_eq!(Pushed::of([u32::MAX, 0]), None);
+}
+
+/// Where tokens and nodes start: at the text's end where there is no token.
+#[test]
+fn tokens_and_nodes_have_places() {
+    let text = "properties\n  A => \"ü\",\n\t1 + 2\n applies to ".as_bytes();
+    let (mut tokens, mut events, mut records) = ([0; 64], [0; 128], [0; 64]);
+    let tree = property_tree(text, &mut tokens, &mut events, &mut records).expect("not refused");
+    let section = tree.section;
+    assert!(section.tokens().enumerate().all(|(number, token)| section.token_place(number) == token.range.start));
+    let behind = section.token_words.len();
+    assert_eq!([behind, behind + 1, usize::MAX].map(|number| section.token_place(number)), [text.len(); 3]);
+    assert_eq!(section.token_position(behind).to_string(), "line 4, column 13");
+    let nodes: Vec<String> = (0..tree.len()).map(|n| format!("{} {}", tree.node(n).kind, tree.position(n))).collect();
+    let wanted = [
+        "PROPERTY_SECTION line 1, column 1",
+        "PROPERTY_ASSOCIATION line 2, column 3",
+        "PROPERTY_REF line 2, column 3",
+        "STRING_VALUE line 2, column 8",
+        "BINARY_EXPR line 3, column 2",
+        "INTEGER_VALUE line 3, column 2",
+        "INTEGER_VALUE line 3, column 6",
+        "APPLIES_TO line 4, column 2",
+        "CONTAINMENT_PATH line 4, column 13",
+    ];
+    assert_eq!(nodes, wanted);
 }
 
 #[test]
@@ -94,8 +201,9 @@ fn what_is_refused() {
     assert_eq!(call(b"properties \xff", 9, 9), at(Refusal::NotUtf8, 11));
     assert_eq!(call(b"properties none;", 3, 9), at(Refusal::NoTokenWord, 15));
     assert_eq!(call(b"", 0, 0), at(Refusal::NoProperties, 0));
-    assert_eq!(call(b"properties none;", 4, 4), at(Refusal::NoEventWord, 16));
-    assert_eq!(call(deep.as_bytes(), 100, 300), at(Refusal::TooDeep, 80));
+    assert_eq!(call(b"properties none;", 4, 9), at(Refusal::NoEventWord, 16));
+    assert_eq!(call(b"properties none;", 4, 4), at(Refusal::NoEventWord, 11));
+    assert_eq!(call(deep.as_bytes(), 100, 600), at(Refusal::TooDeep, 80));
     assert_eq!(call(b"properties A => \"a\"\";", 7, 99), at(Refusal::UnclosedString, 16));
     assert_eq!(call(b"properties A => \"a\"\";", 6, 99), at(Refusal::NoTokenWord, 16));
     assert_eq!(call(b"A => \"1", 9, 0), at(Refusal::UnclosedString, 5));
@@ -111,12 +219,12 @@ fn too_few_records_are_refused() {
     };
     let at = |refusal, place| Refused { refusal, place };
     let text = b" properties A => 1 applies to ";
-    assert_eq!(call(text, 30, 30, 0), at(Refusal::NoRecord, 1));
-    assert_eq!(call(text, 30, 30, 3), at(Refusal::NoRecord, 1));
-    assert_eq!(call(text, 30, 30, 4), at(Refusal::NoRecord, 12));
-    assert_eq!(call(text, 30, 30, 15), at(Refusal::NoRecord, 17));
-    assert_eq!(call(text, 30, 30, 23), at(Refusal::NoRecord, text.len()));
-    assert_eq!(call(text, 30, 3, 3), at(Refusal::NoEventWord, 12));
+    assert_eq!(call(text, 30, 60, 0), at(Refusal::NoRecord, 1));
+    assert_eq!(call(text, 30, 60, 3), at(Refusal::NoRecord, 1));
+    assert_eq!(call(text, 30, 60, 4), at(Refusal::NoRecord, 12));
+    assert_eq!(call(text, 30, 60, 15), at(Refusal::NoRecord, 17));
+    assert_eq!(call(text, 30, 60, 23), at(Refusal::NoRecord, text.len()));
+    assert_eq!(call(text, 30, 7, 3), at(Refusal::NoEventWord, 12));
     assert_eq!(call(b"none;", 2, 0, 0), at(Refusal::NoProperties, 0));
     assert_eq!(call(b"none; \"", 9, 0, 0), at(Refusal::UnclosedString, 6));
 }
@@ -124,7 +232,7 @@ fn too_few_records_are_refused() {
 /// The last two messages stand at one place, with an empty node between them.
 #[test]
 fn messages_stand_in_the_tree() {
-    let (mut tokens, mut events, mut records) = ([0; 32], [0; 64], [0; 64]);
+    let (mut tokens, mut events, mut records) = ([0; 32], [0; 128], [0; 64]);
     let tree = property_tree(b"properties A 1 + applies", &mut tokens, &mut events, &mut records).expect("not refused");
     let told: Vec<_> = tree.errors().map(|m| (m.message.number(), tree.node(m.node).kind, m.nodes, m.tokens, m.place)).collect();
     let wanted = [
@@ -205,7 +313,7 @@ fn numbers_end_with_their_tokens() {
 #[test]
 fn numbers_of_a_section() {
     let text = b"properties A1 => 16#1F# ms .. 2.5e3; -- 7\n B => (\"8\", 0x1F, -1_0) applies to g[3];";
-    let (mut tokens, mut events) = ([0; 64], [0; 64]);
+    let (mut tokens, mut events) = ([0; 64], [0; 128]);
     let section = property_section(text, &mut tokens, &mut events).expect("not refused");
     let told = |token: usize| {
         let Number { base, inner, .. } = number_parts(text, section.token_words, token)?;
@@ -265,7 +373,7 @@ fn any_text_has_numbers() {
 
 /// The value of an association, or the refusal's number and place.
 fn valued(text: &str, number: usize) -> Result<i64, (usize, usize)> {
-    let (mut tokens, mut events) = (vec![7; MOST_BYTES], vec![7; MOST_EVENTS]);
+    let (mut tokens, mut events) = (vec![7; MOST_BYTES], vec![7; ENOUGH]);
     association_value(text.as_bytes(), &mut tokens, &mut events, number).map_err(|r| (r.refusal.number(), r.place))
 }
 
@@ -348,18 +456,19 @@ fn values_leave_the_sections_words() {
         (value, tokens, events)
     };
     let text = b"properties A => 1 - 3;";
-    let (mut tokens, mut events) = (vec![7; 13], vec![7; 20]);
+    let (mut tokens, mut events) = (vec![7; 13], vec![7; 39]);
     property_section(text, &mut tokens, &mut events).expect("not refused");
-    assert_eq!(call(text, 13, 20), (Ok(-2), tokens, events));
+    assert_eq!((events[37], events[38]), (12, 7));
+    assert_eq!(call(text, 13, 39), (Ok(-2), tokens, events));
     assert_eq!(call(&[b' '; MOST_BYTES + 1], 2, 2).0, Err((1, MOST_BYTES)));
-    assert_eq!(call(b"properties A => 1 ms; \xff", 30, 30).0, Err((2, 22)));
-    assert_eq!(call(b"properties A => 1 ms;", 9, 30).0, Err((3, 20)));
+    assert_eq!(call(b"properties A => 1 ms; \xff", 30, 60).0, Err((2, 22)));
+    assert_eq!(call(b"properties A => 1 ms;", 9, 60).0, Err((3, 20)));
     assert_eq!(call(b"A => 1 ms; \"", 30, 0).0, Err((8, 11)));
     assert_eq!(call(b"A => 1 ms;", 30, 0).0, Err((4, 0)));
-    assert_eq!(call(b"properties A => 1 ms;", 30, 13).0, Err((5, 21)));
-    assert_eq!(call(format!("properties A => {}a;", "+".repeat(65)).as_bytes(), 100, 300).0, Err((6, 80)));
-    assert_eq!(call(b"properties A => 1 ms;", 30, 14).0, Err((9, 11)));
-    assert_eq!(call(b"properties A => 1 * 9223372036854775808;", 30, 30).0, Err((10, 20)));
+    assert_eq!(call(b"properties A => 1 ms;", 30, 27).0, Err((5, 21)));
+    assert_eq!(call(format!("properties A => {}a;", "+".repeat(65)).as_bytes(), 100, 600).0, Err((6, 80)));
+    assert_eq!(call(b"properties A => 1 ms;", 30, 28).0, Err((9, 11)));
+    assert_eq!(call(b"properties A => 1 * 9223372036854775808;", 30, 60).0, Err((10, 20)));
 }
 
 /// As many operators as there can be, one more, and 64 signs.
@@ -374,7 +483,7 @@ fn long_sums_have_their_value() {
 /// The steps through an association with an empty node and no semicolon, with spaces around all.
 #[test]
 fn steps_say_where_they_are() {
-    let (mut tokens, mut events) = ([0; 32], [0; 32]);
+    let (mut tokens, mut events) = ([0; 32], [0; 64]);
     let section = property_section(b" properties A =>1 applies to ", &mut tokens, &mut events).expect("not refused");
     let at = |node| section.nodes().find(|step| step.node == node).map(|s| (s.depth, s.token, s.place, s.end));
     assert_eq!(at(Node::Enter(Kind::PROPERTY_SECTION)), Some((0, 1, 1, 0)));
@@ -402,7 +511,7 @@ fn places_have_lines_and_columns() {
 
 #[test]
 fn what_is_clean() {
-    let clean = |text: &[u8]| property_section(text, &mut [0; 32], &mut [0; 32]).expect("not refused").is_clean();
+    let clean = |text: &[u8]| property_section(text, &mut [0; 32], &mut [0; 64]).expect("not refused").is_clean();
     assert!(clean(b"properties A => 1 applies to ; -- all"));
     assert!(!clean(b"properties A => ;"));
     assert!(!clean(b"properties A => 1; }"));
@@ -413,17 +522,18 @@ fn what_is_clean() {
 fn how_many_words_are_enough() {
     let refused = |text: &str, lent_tokens, lent_events| {
         let (mut tokens, mut events) = (vec![0; lent_tokens], vec![0; lent_events]);
-        property_section(text.as_bytes(), &mut tokens, &mut events).map(|section| section.event_words.len()).map_err(|r| r.refusal)
+        property_section(text.as_bytes(), &mut tokens, &mut events).map(|section| section.events().count()).map_err(|r| r.refusal)
     };
     let dense = format!("properties{}", ";".repeat(MOST_BYTES - 10));
-    assert_eq!(refused(&dense, MOST_BYTES, MOST_EVENTS), Ok(3));
+    assert_eq!(refused(&dense, MOST_BYTES, ENOUGH), Ok(3));
     let long = format!("properties a=>{}", "1,".repeat(16_377));
     assert_eq!(long.len(), MOST_BYTES);
-    assert_eq!(refused(&long, MOST_BYTES, MOST_EVENTS), Err(Refusal::NoEventWord));
-    assert_eq!(refused(&long, MOST_BYTES, 4 * MOST_EVENTS), Err(Refusal::NoEventWord));
+    assert_eq!(refused(&long, MOST_BYTES, ENOUGH), Err(Refusal::NoEventWord));
+    assert_eq!(refused(&long, MOST_BYTES, 4 * ENOUGH), Err(Refusal::NoEventWord));
     let full = format!("properties a=>1 s,1 s,1 s{};", ",1".repeat(8_186));
-    assert_eq!(refused(&full, MOST_BYTES, MOST_EVENTS), Ok(MOST_EVENTS));
-    let (mut tokens, mut events, mut records) = (vec![0; MOST_BYTES], vec![0; MOST_EVENTS], vec![0; Tree::RECORD * MOST_NODES]);
+    assert_eq!(refused(&full, MOST_BYTES, ENOUGH), Ok(MOST_EVENTS));
+    assert_eq!(refused(&full, MOST_BYTES, ENOUGH - 1), Err(Refusal::NoEventWord));
+    let (mut tokens, mut events, mut records) = (vec![0; MOST_BYTES], vec![0; ENOUGH], vec![0; Tree::RECORD * MOST_NODES]);
     assert!(property_tree(full.as_bytes(), &mut tokens, &mut events, &mut records).is_ok());
 }
 

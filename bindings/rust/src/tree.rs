@@ -1,5 +1,5 @@
 //! The tree of a section by the records of its nodes. No events are needed to go from a node to its parent, its children or its text.
-use crate::{Kind, Message, Node, Section, Token};
+use crate::{is_trivia, Kind, Message, Node, Position, Section, Token};
 use std::ops::Range;
 
 /// A node's record. Nodes count from 0, the root, in the order in which they open; tokens count from 0 without trivia.
@@ -35,11 +35,12 @@ pub struct Mistake {
 /// use gigboda::Kind;
 ///
 /// let text = b"properties\n  Period => 20 ms;\n";
-/// let (mut tokens, mut events, mut records) = ([0; 32], [0; 32], [0; 32]);
+/// let (mut tokens, mut events, mut records) = ([0; 32], [0; 64], [0; 32]);
 /// let tree = gigboda::property_tree(text, &mut tokens, &mut events, &mut records).unwrap();
 /// // A click on the `20`: the innermost node there, and those around it.
 /// let clicked = tree.innermost(tree.token_at(23)).unwrap();
 /// assert_eq!(&text[tree.range(clicked)], b"20 ms");
+/// assert_eq!(tree.position(clicked).to_string(), "line 2, column 13");
 /// let around: Vec<Kind> = tree.ancestors(clicked).map(|node| tree.node(node).kind).collect();
 /// assert_eq!(around, [Kind::PROPERTY_ASSOCIATION, Kind::PROPERTY_SECTION]);
 /// ```
@@ -68,7 +69,7 @@ impl<'a> Tree<'a> {
     ///
     /// ```
     /// use gigboda::{Kind, Record};
-    /// let (mut tokens, mut events, mut records) = ([0; 32], [0; 32], [0; 32]);
+    /// let (mut tokens, mut events, mut records) = ([0; 32], [0; 64], [0; 32]);
     /// let tree = gigboda::property_tree(b"properties A => 1 ms;", &mut tokens, &mut events, &mut records).unwrap();
     /// assert_eq!(tree.len(), 4);
     /// assert_eq!(tree.node(3), Record { kind: Kind::INTEGER_VALUE, parent: 1, first: 3, below: 2 });
@@ -99,7 +100,7 @@ impl<'a> Tree<'a> {
     /// The nodes right below a node, in order. It goes through all that are below it, and no further.
     ///
     /// ```
-    /// let (mut tokens, mut events, mut records) = ([0; 64], [0; 64], [0; 64]);
+    /// let (mut tokens, mut events, mut records) = ([0; 64], [0; 128], [0; 64]);
     /// let tree = gigboda::property_tree(b"properties A => 1 + 2; B => 3;", &mut tokens, &mut events, &mut records).unwrap();
     /// assert_eq!(tree.children(0).collect::<Vec<_>>(), [1, 6]);
     /// assert_eq!(tree.children(3).map(|node| &tree.section.text[tree.range(node)]).collect::<Vec<_>>(), [b"1", b"2"]);
@@ -130,6 +131,26 @@ impl<'a> Tree<'a> {
         start..rest.take(below).last().map_or(start, |token| token.range.end)
     }
 
+    /// A node's first token by its number among all tokens, trivia too; that of the next one if it has none, or how many there are. The event at
+    /// which the node opens has the same ([`Pushed::token`](crate::Pushed::token)).
+    ///
+    /// ```
+    /// let (mut tokens, mut events, mut records) = ([0; 64], [0; 128], [0; 64]);
+    /// let tree = gigboda::property_tree(b"properties A => 1 .. 2;", &mut tokens, &mut events, &mut records).unwrap();
+    /// // The section, the association, its name, the range, `1`, `2`.
+    /// assert_eq!((0..tree.len()).map(|node| tree.first_token(node)).collect::<Vec<_>>(), [0, 2, 2, 6, 6, 10]);
+    /// ```
+    pub fn first_token(&self, node: usize) -> usize {
+        let words = self.section.token_words;
+        let mut leaves = (0..words.len()).filter(|token| !is_trivia(words[*token]));
+        leaves.nth(self.node(node).first).unwrap_or(words.len())
+    }
+
+    /// Line and column of a node: of its first token, or of the next one if it has none, or of the text's end.
+    pub fn position(&self, node: usize) -> Position {
+        self.section.token_position(self.first_token(node))
+    }
+
     /// The token at a byte of the text; the next one for a byte between two, and as many as there are behind the last.
     pub fn token_at(&self, place: usize) -> usize {
         self.leaves().take_while(|token| token.range.end <= place).count()
@@ -144,7 +165,7 @@ impl<'a> Tree<'a> {
     /// The messages, as they were pushed. Records have none: these come from the events.
     ///
     /// ```
-    /// let (mut tokens, mut events, mut records) = ([0; 32], [0; 32], [0; 32]);
+    /// let (mut tokens, mut events, mut records) = ([0; 32], [0; 64], [0; 32]);
     /// let tree = gigboda::property_tree(b"properties A => (1, );", &mut tokens, &mut events, &mut records).unwrap();
     /// let told = tree.errors().map(|mistake| format!("{} in {}", mistake.message, tree.node(mistake.node).kind));
     /// assert_eq!(told.collect::<Vec<_>>(), ["no value where one must stand in LIST_VALUE"]);

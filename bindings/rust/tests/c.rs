@@ -1,12 +1,13 @@
-//! The C header against this crate: the same tables, the same steps through the trees of the kept sections and of made ones, what the trees'
-//! records say, the same parts of numbers, the same values, and the same lines and columns. The two walk in different ways: the header without
-//! memory, this crate with a list of the Starts that were used. cc builds bindings/c/tests/print.c.
+//! The C header against this crate: the same tables, the same steps through the trees of the kept sections and of made ones, their events with
+//! tokens and places, what the trees' records say, the same parts of numbers, the same values, and the same lines and columns. The two walk in
+//! different ways: the header without memory, this crate with a list of the Starts that were used. cc builds bindings/c/tests/print.c.
 mod files;
 mod made;
 mod records;
 
 use gigboda::{
-    association_value, number_parts, position, property_section, property_tree, tokenize, Kind, Message, Node, Position, Refusal, Section, Step, Tree,
+    association_value, number_parts, position, property_section, property_tree, tokenize, Event, Kind, Message, Node, Position, Pushed, Refusal, Section,
+    Step, Tree,
 };
 use records::{parts, records, Record, TREE, VALUE};
 use std::fmt::Write as _;
@@ -78,7 +79,7 @@ fn step_line(step: Step) -> String {
 fn section_lines(section: &Section) -> String {
     let clean = if section.is_clean() { "clean" } else { "not clean" };
     let Position { line, column } = section.position(section.text.len());
-    let (tokens, taken, events) = (section.token_words.len(), section.taken, section.event_words.len());
+    let (tokens, taken, events) = (section.token_words.len(), section.taken, section.events().count());
     let first = format!("0 0 {tokens} {taken} {events}, 1:1 of {line}:{column}, {clean}\n");
     section.nodes().fold(first, |lines, step| lines + &step_line(step))
 }
@@ -96,6 +97,30 @@ fn walk_lines(record: &Record) -> String {
     }
 }
 
+/// Class, kind and last of an event's first word, made from what it is.
+fn event_fields(event: Event) -> (u32, u32, u32) {
+    match event {
+        Event::Start { kind, forward_parent } => (0, kind.number(), forward_parent.unwrap_or(0).into()),
+        Event::Token { kind } => (1, kind.number(), 1),
+        Event::Finish => (2, 0, 0),
+        Event::Error { message } => (3, 0, message.number().into()),
+    }
+}
+
+/// What the C program prints for a record's events.
+fn event_lines(record: &Record) -> String {
+    let (mut tokens, mut events) = (vec![0; record.tokens as usize], vec![0; record.events as usize]);
+    let section = match property_section(record.text, &mut tokens, &mut events) {
+        Ok(section) => section,
+        Err(refused) => return format!("{} {} 0\n", refused.refusal.number(), refused.place),
+    };
+    let line = |Pushed { event, token }| {
+        let ((class, kind, last), at) = (event_fields(event), section.token_position(token));
+        format!("{class} {kind} {last} {token} {} {}:{}\n", section.token_place(token), at.line, at.column)
+    };
+    section.events().fold(format!("0 0 {}\n", section.events().count()), |lines, pushed| lines + &line(pushed))
+}
+
 fn node_line(tree: &Tree, node: usize) -> String {
     let (record, range) = (tree.node(node), tree.range(node));
     let innermost = tree.innermost(tree.token_at(range.start)).unwrap_or(tree.len());
@@ -106,13 +131,13 @@ fn node_line(tree: &Tree, node: usize) -> String {
 
 /// What the C program prints for a record's tree.
 fn tree_lines(record: &Record) -> String {
-    let lent = if record.call == TREE { record.own } else { record.events / 2 };
+    let lent = if record.call == TREE { record.own } else { record.events / 4 };
     let (mut tokens, mut events) = (vec![0; record.tokens as usize], vec![0; record.events as usize]);
     let mut records = vec![0; lent as usize];
     match property_tree(record.text, &mut tokens, &mut events, &mut records) {
         Ok(tree) => {
-            let Section { token_words, taken, event_words, .. } = tree.section;
-            let first = format!("0 0 {} {taken} {} {}\n", token_words.len(), event_words.len(), tree.len());
+            let Section { token_words, taken, .. } = tree.section;
+            let first = format!("0 0 {} {taken} {} {}\n", token_words.len(), tree.section.events().count(), tree.len());
             (0..tree.len()).fold(first, |lines, node| lines + &node_line(&tree, node))
         }
         Err(refused) => format!("{} {} 0 0 0 0\n", refused.refusal.number(), refused.place),
@@ -137,7 +162,7 @@ fn value_line(record: &Record) -> String {
     match association_value(record.text, &mut tokens, &mut events, number) {
         Ok(value) => {
             let section = property_section(record.text, &mut tokens, &mut events).expect("not refused");
-            format!("0 0 {} {} {} {value}\n", section.token_words.len(), section.taken, section.event_words.len())
+            format!("0 0 {} {} {} {value}\n", section.token_words.len(), section.taken, section.events().count())
         }
         Err(refused) => format!("{} {} 0 0 0 0\n", refused.refusal.number(), refused.place),
     }
@@ -145,7 +170,7 @@ fn value_line(record: &Record) -> String {
 
 /// A record of the section call.
 fn record_of(text: &[u8]) -> Vec<u8> {
-    let numbers = [text.len() as u32, 2_000, 2_000];
+    let numbers = [text.len() as u32, 2_000, 4_000];
     numbers.iter().flat_map(|number| number.to_le_bytes()).chain(text.iter().copied()).collect()
 }
 
@@ -164,6 +189,11 @@ fn the_same_for_sections(name: &str, what: &str, lines: fn(&Record) -> String) {
 #[test]
 fn the_same_walks() {
     the_same_for_sections("print_walks", "walks", walk_lines);
+}
+
+#[test]
+fn the_same_events() {
+    the_same_for_sections("print_events", "events", event_lines);
 }
 
 #[test]

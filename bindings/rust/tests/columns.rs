@@ -1,5 +1,5 @@
 //! Lines and columns of the sample with many sorts of characters, `samples/characters.aadl`. What `list` prints for it is kept beside it, and
-//! tools/programs-test holds `list` to that. Here the lines and columns of `position` and those that `tree` prints are held to the same
+//! tools/programs-test holds `list` to that. Here the lines and columns of the events' tokens and those that `tree` prints are held to the same
 //! listing, and those of every character, in made texts too, to what Rust counts.
 mod files;
 mod made;
@@ -29,22 +29,13 @@ fn positions_are_those_of_the_listing() {
     let (mut tokens, mut events) = (vec![0; text.len()], vec![0; 16 * text.len()]);
     let section = property_section(&text, &mut tokens, &mut events).expect("not refused");
     assert!(section.is_clean());
-    let mut starts = section.tokens().filter(|token| !token.kind.is_trivia()).map(|token| token.range.start);
-    let mut next = starts.next();
-    let mut ours = Vec::new();
-    for event in section.events() {
-        let at = section.position(next.unwrap_or(text.len()));
-        let class = match event {
-            Event::Start { .. } => 'S',
-            Event::Token { .. } => 'T',
-            Event::Finish => 'F',
-            Event::Error { .. } => 'E',
-        };
-        if class == 'T' {
-            next = starts.next();
-        }
-        ours.push((class, at));
-    }
+    let class = |event| match event {
+        Event::Start { .. } => 'S',
+        Event::Token { .. } => 'T',
+        Event::Finish => 'F',
+        Event::Error { .. } => 'E',
+    };
+    let ours: Vec<(char, Position)> = section.events().map(|p| (class(p.event), section.token_position(p.token))).collect();
     assert_eq!(ours, listed());
     println!("{} events at their lines and columns", ours.len());
 }

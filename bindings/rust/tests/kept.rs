@@ -2,7 +2,7 @@
 mod files;
 mod records;
 
-use gigboda::{association_value, number_parts, property_section, property_tree, tokenize, Refused, Section, Tree};
+use gigboda::{association_value, number_parts, property_section, property_tree, tokenize, Refused, Section, Tree, EVENT_WORDS};
 use records::{parts, records, Record, PARTS, TREE, VALUE};
 use std::fmt::Display;
 
@@ -46,7 +46,7 @@ fn answer_lines(record: &Record) -> String {
     let ([t, taken, e], own) = answer.unwrap_or_default();
     let (number, place, left) = answer.map_or_else(|r| (r.refusal.number(), r.place, 0), |_| (0, 0, OLD));
     let rest = |words: &[u32], filled: usize| words[filled..].iter().filter(|w| **w == left).count();
-    let five = [number, place, t, taken, e].map(|n| n as i64);
+    let five = [number, place, t, taken, e / EVENT_WORDS].map(|n| n as i64);
     let six = [&five[..], &[own]].concat();
     let section = line("tokens", &tokens[..t]) + &line("events", &events[..e]) + &line("rest", &[rest(&tokens, t), rest(&events, e)]);
     match record.call {

@@ -1,10 +1,10 @@
 //! The tree's records against the steps through the events, on the kept sections and on made ones: the call's words, what `Tree` finds from
-//! them, and refusal 7 for every number of records that is too small.
+//! them, the tokens of the events at which nodes open, and refusal 7 for every number of records that is too small.
 mod files;
 mod made;
 mod records;
 
-use gigboda::{property_section, property_tree, Node, Record, Refusal, Refused, Section, Token, Tree};
+use gigboda::{property_section, property_tree, Event, Node, Pushed, Record, Refusal, Refused, Section, Token, Tree, EVENT_WORDS};
 
 /// How many texts are made.
 const MADE: usize = 4_000;
@@ -38,6 +38,23 @@ fn walked(section: &Section) -> Vec<Record> {
     nodes
 }
 
+/// The token of the event at which each node opens: a Start to which no earlier one points opens all nodes of its chain.
+fn opened_at(section: &Section) -> Vec<usize> {
+    let events: Vec<Pushed> = section.events().collect();
+    let mut used = vec![false; events.len()];
+    let mut tokens = Vec::new();
+    for start in 0..events.len() {
+        let mut on = (!used[start]).then_some(start);
+        while let Some(at) = on {
+            let Event::Start { forward_parent, .. } = events[at].event else { break };
+            used[at] = true;
+            tokens.push(events[start].token);
+            on = forward_parent.map(|distance| at + usize::from(distance));
+        }
+    }
+    tokens
+}
+
 /// The words that are lent to one call.
 struct Lent {
     tokens: Vec<u32>,
@@ -55,15 +72,15 @@ impl Lent {
     }
 }
 
-/// What the call leaves where two more words of each sort are lent than it needs, the records among them.
+/// What the call leaves where three more words of each sort are lent than it needs, the records among them.
 fn fills_what_it_needs(text: &[u8], section: &Section, wanted: &[Record]) {
     let (tokens, events) = (section.token_words.len(), section.event_words.len());
     let words: Vec<u32> = wanted.iter().flat_map(|r| [r.kind as u32, r.parent as u32, r.first as u32, r.below as u32]).collect();
-    let mut lent = Lent::new(tokens + 2, events + 2, words.len() + 2);
+    let mut lent = Lent::new(tokens + 3, events + 3, words.len() + 3);
     let taken = lent.read(text).expect("not refused").section.taken;
     assert_eq!(taken, section.taken);
     let filled = [(lent.tokens, section.token_words), (lent.events, section.event_words), (lent.records, &words)];
-    assert!(filled.iter().all(|(left, wanted)| *left == [wanted, [OLD; 2].as_slice()].concat()), "{text:?}");
+    assert!(filled.iter().all(|(left, wanted)| *left == [wanted, [OLD; 3].as_slice()].concat()), "{text:?}");
 }
 
 /// For every smaller number of records, and with three words more, a refusal where the first node without one has its token.
@@ -88,6 +105,8 @@ fn finds(tree: &Tree, leaves: &[Token], wanted: &[Record]) {
         assert!(parent.first <= record.first && record.first + record.below <= parent.first + parent.below, "tokens outside the parent's");
         children[record.parent].push(node);
     }
+    let opened = opened_at(&tree.section);
+    assert_eq!(opened.len(), wanted.len());
     for node in (0..wanted.len()).step_by(1 + wanted.len() / SMALL) {
         let Record { parent, first, below, .. } = wanted[node];
         let own = &leaves[first..first + below];
@@ -98,6 +117,7 @@ fn finds(tree: &Tree, leaves: &[Token], wanted: &[Record]) {
         assert!(tree.tokens(node).eq(own.iter().cloned()), "tokens of {node}");
         assert_eq!(tree.range(node), start..own.last().map_or(start, |token| token.range.end));
         assert_eq!(tree.token_at(start), first);
+        assert_eq!((tree.first_token(node), tree.section.token_place(opened[node])), (opened[node], start), "first token of {node}");
         let has_first = |n: &usize| (wanted[*n].first..wanted[*n].first + wanted[*n].below).contains(&first);
         let around: Vec<usize> = (0..wanted.len()).filter(has_first).collect();
         let innermost = tree.innermost(first);
@@ -152,6 +172,6 @@ fn trees_of_long_and_deep_sections() {
     let sums = format!("properties a=>1{};", "+  1  ".repeat(5_458));
     let products = format!("properties a=>1{};", "*".repeat(8_187));
     let deep = format!("properties a=>{}1{};", "[a=>(".repeat(32), ");]".repeat(32));
-    let looked = [sums, products, deep].map(|text| looked_at(text.as_bytes(), gigboda::MOST_BYTES, gigboda::MOST_EVENTS));
+    let looked = [sums, products, deep].map(|text| looked_at(text.as_bytes(), gigboda::MOST_BYTES, EVENT_WORDS * gigboda::MOST_EVENTS));
     assert_eq!(looked, [Some(5_458 + 5_459 + 3), Some(8_187 + 4), Some(3 * 32 + 4)]);
 }

@@ -2,7 +2,9 @@
 //! runs it).
 use gigboda::{
     association_value, number_parts, property_section, property_tree, tokenize, Event, Kind, Message, Node, Number, Refusal, Refused, Section,
+    EVENT_WORDS, MOST_EVENTS,
 };
+use oracle::pushes;
 use oracle::tree::leaves;
 use oracle::values::value;
 use spar::event::Event as Theirs;
@@ -208,16 +210,9 @@ fn same_tokens(text: &str) -> Option<usize> {
     Some(same_numbers(text, ours, &theirs))
 }
 
-/// The Rust's events.
-fn their_events(text: &str, tokens: &[(SyntaxKind, usize)]) -> Vec<Theirs> {
-    let mut parser = spar::parser::Parser::new(tokens, text);
-    parser.run_property_section();
-    parser.finish()
-}
-
-/// Compares the events, the tree and its records with the Rust's. False for a text that is refused where the Rust has no limit.
+/// Compares the events and their tokens, the tree and its records with the Rust's. False for a text that is refused where the Rust has no limit.
 fn same_section(text: &str) -> bool {
-    let (mut tokens, mut events) = (vec![0; text.len()], vec![0; gigboda::MOST_EVENTS]);
+    let (mut tokens, mut events) = (vec![0; text.len()], vec![0; EVENT_WORDS * MOST_EVENTS]);
     let all = spar::lexer::tokenize(text);
     let section = match property_section(text.as_bytes(), &mut tokens, &mut events) {
         Ok(section) => section,
@@ -228,9 +223,10 @@ fn same_section(text: &str) -> bool {
         }
     };
     assert_eq!(unclosed(text, &all), None, "{text:?}");
-    let theirs = their_events(text, &all);
+    let (theirs, tokens) = pushes::events(text, &all);
     assert_eq!(section.events().count(), theirs.len(), "{text:?}");
-    assert!(section.events().zip(&theirs).all(|(o, t)| same_event(o, t)), "{text:?}");
+    assert!(section.events().zip(&theirs).all(|(o, t)| same_event(o.event, t)), "{text:?}");
+    assert!(section.events().map(|pushed| pushed.token).eq(tokens), "{text:?}");
     let leaves = leaves(&all);
     let theirs = their_tree(theirs, leaves.iter().map(|range| text[range.clone()].to_string()));
     assert_eq!(our_tree(&section, text), theirs, "{text:?}");
@@ -242,11 +238,11 @@ fn same_section(text: &str) -> bool {
 /// Compares the value of each association of a text, and of the first behind them, with what the oracle computes from the Rust's events; how many are
 /// numbers. A value leaves the section call's words, and a refusal leaves zeros. None for a text that the section call refuses.
 fn same_values(text: &str) -> Option<usize> {
-    let (mut tokens, mut events) = (vec![7; text.len()], vec![7; gigboda::MOST_EVENTS]);
+    let (mut tokens, mut events) = (vec![7; text.len()], vec![7; EVENT_WORDS * MOST_EVENTS]);
     let section = property_section(text.as_bytes(), &mut tokens, &mut events).ok()?;
     let words = [section.token_words, section.event_words].concat();
     let all = spar::lexer::tokenize(text);
-    let (theirs, leaves) = (their_events(text, &all), leaves(&all));
+    let ((theirs, _), leaves) = (pushes::events(text, &all), leaves(&all));
     let mut computed = 0;
     for number in 0..=associations(&section) {
         let (mut tokens, mut events) = (vec![7; section.token_words.len()], vec![7; section.event_words.len()]);
@@ -314,7 +310,7 @@ fn events_and_trees_are_the_rusts() {
         let texts = texts_of(families::sections(), 8);
         let read = texts.iter().filter(|text| same_section(text)).count();
         assert!(read > 20_000, "only {read} of {} texts were read", texts.len());
-        println!("{read} of {} texts read to the same events, trees and records, the others refused", texts.len());
+        println!("{read} of {} texts read to the same events, with their tokens, trees and records, the others refused", texts.len());
     });
 }
 

@@ -2,9 +2,9 @@
 //! it; tools/README.md says what its lines mean.
 use bench::families::{self, Text};
 use bench::measure::ROUNDS;
-use bench::place::{self, Measured, LINE, WORDS};
+use bench::place::{self, Measured, LINE, MOST};
 use bench::table;
-use gigboda::Tree;
+use gigboda::{Tree, EVENT_WORDS};
 use std::process::{exit, Command, Stdio};
 
 const PROGRAMS: [&str; 4] = ["place-0", "place-16", "place-32", "place-48"];
@@ -40,9 +40,10 @@ fn measure_all(texts: &[Text]) -> Vec<Measured> {
 
 fn main() {
     println!(
-        "ns of thread time per byte, lower quartile of {ROUNDS} rounds, ours and the Rust's in turn; {WORDS} words of each sort lent, \
-         for records {}, once per text, not cleared between calls",
-        Tree::RECORD * WORDS
+        "ns of thread time per byte, lower quartile of {ROUNDS} rounds, ours and the Rust's in turn; {MOST} token words lent, {} event words, \
+         {} record words, once per text, not cleared between calls",
+        EVENT_WORDS * MOST,
+        Tree::RECORD * MOST
     );
     let texts = families::all();
     let places = measure_all(&texts);

@@ -2,13 +2,13 @@
 //! one for each text of the value call.
 use crate::families::Text;
 use crate::measure::{quartiles, Job, Quartiles};
-use gigboda::{association_value, property_section, property_tree, tokenize, Kind, Node, Tree};
+use gigboda::{association_value, property_section, property_tree, tokenize, Kind, Node, Tree, EVENT_WORDS};
 use spar::parser::Parser;
 use std::hint::black_box;
 use std::str::FromStr;
 
-/// As many words of each sort as a text can need.
-pub const WORDS: usize = 32_768;
+/// As many tokens, and as many events, as a text can have.
+pub const MOST: usize = 32_768;
 
 /// Code is fetched by lines of so many bytes.
 pub const LINE: usize = 64;
@@ -40,7 +40,7 @@ struct Lent {
 
 impl Lent {
     fn new() -> Lent {
-        Lent { tokens: vec![0; WORDS], events: vec![0; WORDS], records: vec![0; Tree::RECORD * WORDS] }
+        Lent { tokens: vec![0; MOST], events: vec![0; EVENT_WORDS * MOST], records: vec![0; Tree::RECORD * MOST] }
     }
 }
 
@@ -52,13 +52,13 @@ fn our_tokens(text: &str, lent: &mut [u32]) -> usize {
 /// How many tokens and events a section has.
 fn our_section(text: &str, lent: &mut Lent) -> (usize, usize) {
     let section = property_section(text.as_bytes(), &mut lent.tokens, &mut lent.events).expect("not refused");
-    (section.token_words.len(), section.event_words.len())
+    (section.token_words.len(), section.event_words.len() / EVENT_WORDS)
 }
 
 /// How many tokens, events and nodes a section has.
 fn our_tree(text: &str, lent: &mut Lent) -> (usize, usize, usize) {
     let tree = property_tree(text.as_bytes(), &mut lent.tokens, &mut lent.events, &mut lent.records).expect("not refused");
-    (tree.section.token_words.len(), tree.section.event_words.len(), tree.len())
+    (tree.section.token_words.len(), tree.section.event_words.len() / EVENT_WORDS, tree.len())
 }
 
 fn our_value(text: &str, lent: &mut Lent, number: usize) -> i64 {

@@ -1,7 +1,12 @@
 //! A small mix of records, for a run on every check.
 use crate::programs::{answer, groups, Form, Program, Record, TOKENS_ONLY};
-use crate::source::{Call, Source, RECORD};
+use crate::source::{Call, Source, EVENT, EVENTS_OF_A_BYTE, RECORD};
 use texts::families::Maker;
+
+/// Event words in plenty for a text.
+fn enough_events(text: &[u8]) -> u32 {
+    (EVENT * EVENTS_OF_A_BYTE * text.len()) as u32
+}
 
 /// The texts that 01 names.
 fn named_texts() -> Vec<Vec<u8>> {
@@ -51,7 +56,7 @@ pub fn sample(count: usize, sections: bool) -> Vec<Record> {
     let mut source = Source::new(1, if sections { Call::Section } else { Call::Tokens });
     let mut records = Vec::new();
     for text in named_texts() {
-        let (tokens, events) = (text.len() as u32, if sections { 8 * text.len() as u32 } else { TOKENS_ONLY });
+        let (tokens, events) = (text.len() as u32, if sections { enough_events(&text) } else { TOKENS_ONLY });
         records.push(Record { family: 0, text, tokens, events, form: Form::Plain });
     }
     let end = if sections { Vec::new() } else { greatest() };
@@ -64,7 +69,7 @@ pub fn sample(count: usize, sections: bool) -> Vec<Record> {
         let Some(text) = text.filter(|t| t.len() < 400) else { continue };
         let enough = text.len();
         let tokens = if sections { enough as u32 } else { source.lent(enough) };
-        let events = if sections { source.lent(8 * enough) } else { TOKENS_ONLY };
+        let events = if sections { source.lent_events(enough) } else { TOKENS_ONLY };
         records.push(Record { family: at, text, tokens, events, form: Form::Plain });
     }
     records.extend(end);
@@ -88,13 +93,14 @@ const TREES: [&[u8]; 11] = [
 ];
 
 /// Records of the extended form: of each text the section call and the tokens-only call; and the tree call with words in plenty, with no record word and with
-/// three. Then, by the oracle's answers, with exactly as many words, three more, one fewer and one record fewer; and with an event word or a token word too few.
+/// three. Then, by the oracle's answers, with exactly as many words, three more, one fewer and one record fewer; with an event word more, which no event has; and
+/// with an event word or a token word too few.
 pub fn extended(oracle: &Program) -> Vec<Record> {
     let texts = named_texts().into_iter().chain(TREES.map(<[u8]>::to_vec));
     let (mut records, mut whole) = (Vec::new(), Vec::new());
     for text in texts {
         let bytes = text.len() as u32;
-        let plenty = Record { family: 0, text, tokens: bytes, events: 8 * bytes, form: Form::Tree(16 * bytes + 3) };
+        let plenty = Record { family: 0, tokens: bytes, events: enough_events(&text), text, form: Form::Tree(16 * bytes + 3) };
         records.push(Record { form: Form::Extended, ..plenty.clone() });
         records.push(Record { form: Form::Extended, events: TOKENS_ONLY, ..plenty.clone() });
         records.extend([0, 3].map(|words| Record { form: Form::Tree(words), ..plenty.clone() }));
@@ -105,12 +111,14 @@ pub fn extended(oracle: &Program) -> Vec<Record> {
     for (record, group) in whole.iter().zip(groups(&output)) {
         records.push(record.clone());
         let [0, _, tokens, _, events, nodes] = answer(group).expect("an answer") else { continue };
-        let (tokens, events, exact) = (tokens as u32, events as u32, RECORD as u32 * nodes as u32);
+        let (tokens, events, exact) = (tokens as u32, EVENT as u32 * events as u32, RECORD as u32 * nodes as u32);
         let mut ask = |tokens, events, words| records.push(Record { tokens, events, form: Form::Tree(words), ..record.clone() });
         for words in [exact, exact + 3, exact - 1, exact - RECORD as u32] {
             ask(tokens, events, words);
         }
-        ask(tokens, events - 1, exact);
+        for events in [events + 1, events - 1] {
+            ask(tokens, events, exact);
+        }
         ask(tokens - 1, events, exact);
     }
     records
@@ -182,12 +190,11 @@ const SUMS: [&str; 9] = [
 ];
 
 /// Records of the value call: of each value the only association; of each section every one that may be there, the first behind them and the greatest number;
-/// and of the texts above the first. Then, of every fifth of them that the section call reads, with exactly as many words, one fewer of each sort, and no
-/// event word.
+/// and of the texts above the first. Then, of every fifth of them that the section call reads, with exactly as many words, with an event word more, with one
+/// fewer of each sort, and with no event word.
 pub fn values(oracle: &Program) -> Vec<Record> {
     let ask = |text: &[u8], number| {
-        let bytes = text.len() as u32;
-        Record { family: 0, text: text.to_vec(), tokens: bytes, events: 8 * bytes, form: Form::Value(number) }
+        Record { family: 0, text: text.to_vec(), tokens: text.len() as u32, events: enough_events(text), form: Form::Value(number) }
     };
     let mut records: Vec<Record> = VALUES.iter().map(|value| ask(format!("properties A => {value};").as_bytes(), 0)).collect();
     for section in SUMS {
@@ -201,7 +208,8 @@ pub fn values(oracle: &Program) -> Vec<Record> {
     let output = oracle.output(&read);
     for (record, group) in some.iter().zip(groups(&output)) {
         let [0, _, tokens, _, events, _] = answer(group).expect("an answer").map(|n| n as u32) else { continue };
-        let lent = [(tokens, events), (tokens, events - 1), (tokens - 1, events), (tokens, TOKENS_ONLY)];
+        let events = EVENT as u32 * events;
+        let lent = [(tokens, events), (tokens, events + 1), (tokens, events - 1), (tokens - 1, events), (tokens, TOKENS_ONLY)];
         records.extend(lent.map(|(tokens, events)| Record { tokens, events, ..record.clone() }));
     }
     records

@@ -4,12 +4,17 @@ use texts::families::{self, Family, Maker};
 use texts::random::Rng;
 use texts::{lexer, sections, values};
 
-/// The most bytes, token words or event words that a record has, and the most record words.
+/// The most bytes or token words that a record has, the most event words, and the most record words.
 const MOST: usize = 40_000;
-const MOST_RECORDS: usize = 160_000;
+const MOST_EVENTS: usize = EVENT * MOST;
+const MOST_RECORDS: usize = RECORD * MOST;
 
-/// The words of a record of the tree call.
+/// The words of an event, and of a record of the tree call.
+pub const EVENT: usize = 2;
 pub const RECORD: usize = 4;
+
+/// A text has fewer events than so many for each of its bytes: fewer than eight for each token.
+pub const EVENTS_OF_A_BYTE: usize = 8;
 
 /// One batch goes through one run of each program.
 const BATCH_RECORDS: usize = 20_000;
@@ -119,6 +124,16 @@ impl Source {
         self.lent_within(enough, MOST)
     }
 
+    /// The same of event words for a text of so many bytes. As often as not they are an odd number, whose last word no event can have.
+    pub fn lent_events(&mut self, bytes: usize) -> u32 {
+        self.lent_within(EVENT * EVENTS_OF_A_BYTE * bytes, MOST_EVENTS)
+    }
+
+    /// Event words in plenty, an odd number of them or not.
+    fn plenty_of_events(&mut self, bytes: usize) -> u32 {
+        (EVENT * EVENTS_OF_A_BYTE * bytes + self.rng.below(EVENT)).min(MOST_EVENTS) as u32
+    }
+
     fn lent_within(&mut self, enough: usize, bound: usize) -> u32 {
         let most = enough.min(bound);
         let lent = match self.rng.below(8) {
@@ -130,7 +145,7 @@ impl Source {
         lent.min(bound) as u32
     }
 
-    /// A new record. A text has no more tokens than bytes, and fewer events than eight for each token, two of them a node's.
+    /// A new record. A text has no more tokens than bytes, and of its events two are a node's.
     fn next(&mut self) -> Record {
         if let Some(record) = self.asked.pop() {
             return record;
@@ -140,14 +155,17 @@ impl Source {
         let words = (bytes + 1).min(MOST) as u32;
         let (tokens, events, form) = match self.call {
             Call::Tokens => (self.lent(bytes), TOKENS_ONLY, Form::Plain),
-            Call::Section => (words, self.lent(8 * bytes), Form::Plain),
-            Call::Tree => (words, (8 * bytes).min(MOST) as u32, Form::Tree(self.lent_within(4 * RECORD * bytes, MOST_RECORDS))),
+            Call::Section => (words, self.lent_events(bytes), Form::Plain),
+            Call::Tree => {
+                let records = self.lent_within(EVENTS_OF_A_BYTE / 2 * RECORD * bytes, MOST_RECORDS);
+                (words, self.plenty_of_events(bytes), Form::Tree(records))
+            }
             Call::Parts => {
                 let tokens = if self.rng.once_in(4) { self.lent(bytes) } else { words };
                 (tokens, *self.rng.pick(&[TOKENS_ONLY, 0, 1, MOST as u32]), Form::Parts(0))
             }
             Call::Value => {
-                let events = if self.rng.once_in(8) { self.lent(8 * bytes) } else { (8 * bytes).min(MOST) as u32 };
+                let events = if self.rng.once_in(8) { self.lent_events(bytes) } else { self.plenty_of_events(bytes) };
                 let number = self.association(&text);
                 (words, if self.rng.once_in(128) { TOKENS_ONLY } else { events }, Form::Value(number))
             }
@@ -185,7 +203,7 @@ impl Source {
         }
     }
 
-    /// The same text with exactly as many words as the answer counts, and with fewer.
+    /// The same text with exactly as many words as the answer counts, and with fewer; of event words also with one more, which stays as it was.
     pub fn again(&mut self, record: &Record, tokens: usize, events: usize, records: usize) {
         if record.family == self.extra(2) || !self.rng.once_in(AGAIN_ONCE_IN) {
             return;
@@ -193,25 +211,27 @@ impl Source {
         let family = self.extra(2);
         let ask = |tokens: usize, events: u32, form: Form| Record { family, text: record.text.clone(), tokens: tokens as u32, events, form };
         let fewer = |n: usize| n.saturating_sub(1);
+        let pairs = EVENT * events;
         match self.call {
             Call::Tokens => {
                 self.asked.push(ask(tokens, TOKENS_ONLY, Form::Plain));
                 self.asked.push(ask(fewer(tokens), TOKENS_ONLY, Form::Plain));
             }
             Call::Section | Call::Value => {
-                self.asked.push(ask(tokens, events as u32, record.form));
-                self.asked.push(ask(tokens, fewer(events) as u32, record.form));
-                self.asked.push(ask(fewer(tokens), events as u32, record.form));
-                let any = self.rng.below(events + 1) as u32;
-                self.asked.push(ask(tokens, any, record.form));
+                for words in [pairs, pairs + 1, fewer(pairs), fewer(fewer(pairs)), self.rng.below(pairs + 1)] {
+                    self.asked.push(ask(tokens, words as u32, record.form));
+                }
+                self.asked.push(ask(fewer(tokens), pairs as u32, record.form));
             }
             Call::Tree => {
                 let exact = RECORD * records;
                 for words in [exact, exact + RECORD - 1, fewer(exact), self.rng.below(exact + 1)] {
-                    self.asked.push(ask(tokens, events as u32, Form::Tree(words as u32)));
+                    self.asked.push(ask(tokens, pairs as u32, Form::Tree(words as u32)));
                 }
-                self.asked.push(ask(tokens, fewer(events) as u32, Form::Tree(exact as u32)));
-                self.asked.push(ask(fewer(tokens), events as u32, Form::Tree(exact as u32)));
+                for words in [pairs + 1, fewer(pairs), self.rng.below(pairs + 1)] {
+                    self.asked.push(ask(tokens, words as u32, Form::Tree(exact as u32)));
+                }
+                self.asked.push(ask(fewer(tokens), pairs as u32, Form::Tree(exact as u32)));
             }
             // A line `parts` counts no words.
             Call::Parts => {}
@@ -234,7 +254,7 @@ impl Source {
         let family = self.extra(2);
         if record.family != family {
             for _ in 0..4 {
-                let events = 120 + self.rng.below(360) as u32;
+                let events = (EVENT * 120 + self.rng.below(EVENT * 360)) as u32;
                 self.asked.push(Record { family, events, ..record.clone() });
             }
         }

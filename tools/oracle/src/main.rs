@@ -1,14 +1,14 @@
 //! The oracle: for each record of standard input the lines that 01 asks for, from the given Rust. The Rust has no limits, no refusals,
-//! no tree call, no parts of numbers and no values; this program puts them around it. tools/README.md says what a record is and what is written for one.
+//! no tokens of events, no tree call, no parts of numbers and no values; this program puts them around it. tools/README.md says what a record is and what is written for one.
 mod records;
 
 use oracle::parts::parts;
+use oracle::pushes;
 use oracle::tree::{leaves, nodes, steps, Node};
 use oracle::values::value;
-use records::{next, write_record, write_words, Call, Next, Reading, Record, Refusal, RECORD};
+use records::{next, write_record, write_words, Call, Next, Reading, Record, Refusal, EVENT, RECORD};
 use spar::event::Event;
 use spar::lexer::tokenize;
-use spar::parser::Parser;
 use spar::syntax_kind::SyntaxKind;
 use std::collections::HashMap;
 use std::io::{self, BufReader, BufWriter, Write};
@@ -51,6 +51,7 @@ impl Messages {
     }
 }
 
+/// An event's first word.
 fn event_word(event: &Event, messages: &Messages) -> u32 {
     let word = |class: u32, kind: u32, last: u32| class * 16_777_216 + kind * 65_536 + last;
     match event {
@@ -79,10 +80,10 @@ fn is_opener(events: &[Event], at: usize) -> bool {
     }
 }
 
-/// Refusals 5 and 6 by reading order. Starts and Finishes nest in the order in which they were pushed, forward parents or not: a node
+/// Refusals 5 and 6 by reading order, for so many lent event words. Starts and Finishes nest in the order in which they were pushed, forward parents or not: a node
 /// that is put around another is started after that one's Finish. `leaves` are the non-trivia tokens' places, then the text's end.
 fn limits(events: &[Event], lent: usize, leaves: &[Range<usize>]) -> Result<usize, Refusal> {
-    let words = lent.min(MOST_EVENTS);
+    let room = (lent / EVENT).min(MOST_EVENTS);
     let mut taken = 0;
     let mut open = 0;
     let mut nodes: Vec<bool> = Vec::new();
@@ -91,7 +92,7 @@ fn limits(events: &[Event], lent: usize, leaves: &[Range<usize>]) -> Result<usiz
         if opener && open == MOST_OPENERS {
             return Err(Refusal(6, leaves[taken].start));
         }
-        if at >= words {
+        if at >= room {
             return Err(Refusal(5, leaves[taken].start));
         }
         match event {
@@ -130,11 +131,12 @@ fn tokens(record: &Record) -> Result<(&str, Vec<Token>), Refusal> {
     Ok((text, tokens))
 }
 
-/// A section that is read: where its text's non-trivia tokens stand, then the text's end; how many of them it takes; its events.
+/// A section that is read: where its text's non-trivia tokens stand, then the text's end; how many of them it takes; its events, and the token of each.
 struct Section {
     leaves: Vec<Range<usize>>,
     taken: usize,
     events: Vec<Event>,
+    numbers: Vec<usize>,
 }
 
 /// A section, or one of the refusals 4 to 6.
@@ -144,14 +146,18 @@ fn section(text: &str, tokens: &[Token], lent: usize) -> Result<Section, Refusal
     if first.is_none_or(|(kind, _)| *kind != SyntaxKind::PROPERTIES_KW) {
         return Err(Refusal(4, leaves[0].start));
     }
-    let mut parser = Parser::new(tokens, text);
-    parser.run_property_section();
-    let events = parser.finish();
+    let (events, numbers) = pushes::events(text, tokens);
     let taken = limits(&events, lent, &leaves)?;
-    Ok(Section { leaves, taken, events })
+    Ok(Section { leaves, taken, events, numbers })
 }
 
 impl Section {
+    /// Two words for each event: the event, and its token.
+    fn words(&self, messages: &Messages) -> Vec<u32> {
+        let pairs = self.events.iter().zip(&self.numbers);
+        pairs.flat_map(|(event, number)| [event_word(event, messages), *number as u32]).collect()
+    }
+
     /// The records of all nodes, or refusal 7.
     fn records(&self, words: usize) -> Result<Vec<u32>, Refusal> {
         let nodes = nodes(&steps(self.events.clone()));
@@ -178,7 +184,7 @@ fn call(record: &Record, messages: &Messages) -> Result<Reading, Refusal> {
             _ => {}
         }
         reading.taken = section.taken;
-        reading.events = section.events.iter().map(|e| event_word(e, messages)).collect();
+        reading.events = section.words(messages);
     }
     reading.tokens = tokens.iter().map(|(kind, len)| *kind as u32 * 65_536 + *len as u32).collect();
     Ok(reading)

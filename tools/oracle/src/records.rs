@@ -1,11 +1,13 @@
 //! Records as tools/README.md has them: how one is read, and what is written for its answer.
 use std::io::{ErrorKind, Read};
 
-/// A record's limits; that of the record words is four times as high.
+/// A record's limits; that of the event words is twice as high, and that of the record words four times.
 const MOST_IN_RECORD: u32 = 40_000;
+const MOST_EVENT_WORDS: u32 = EVENT as u32 * MOST_IN_RECORD;
 const MOST_RECORD_WORDS: u32 = RECORD as u32 * MOST_IN_RECORD;
 
-/// The words of a record of the tree call.
+/// The words of an event, and of a record of the tree call.
+pub const EVENT: usize = 2;
 pub const RECORD: usize = 4;
 
 /// In the place of a number: the extended form, the largest settings, no event words.
@@ -88,7 +90,7 @@ pub fn write_record(out: &mut Vec<u8>, record: &Record, answer: Result<Reading, 
         _ => (0, None),
     };
     let added = records.map(|_| read.records.len() / RECORD);
-    let counts = [place, read.tokens.len(), read.taken, read.events.len()];
+    let counts = [place, read.tokens.len(), read.taken, read.events.len() / EVENT];
     let numbers: Vec<u32> = counts.into_iter().chain(added).map(|n| n as u32).collect();
     write_row(out, "answer", &[&[number], &numbers[..]].concat());
     if let Call::Value { .. } = record.call {
@@ -134,7 +136,7 @@ fn within(number: u32, most: u32) -> Option<usize> {
 
 /// The call by its number in a record, with the record's settings, the lent event words and the call's own number.
 fn call(number: u32, settings: u32, events: u32, own: u32) -> Option<Call> {
-    let lent = if events == NONE { None } else { Some(within(events, MOST_IN_RECORD)?) };
+    let lent = if events == NONE { None } else { Some(within(events, MOST_EVENT_WORDS)?) };
     match (number, settings, own) {
         (0, NONE, 0) => Some(lent.map_or(Call::Tokens, |events| Call::Section { events })),
         (1, NONE, _) => Some(Call::Tree { events: lent.unwrap_or(0), records: within(own, MOST_RECORD_WORDS)? }),

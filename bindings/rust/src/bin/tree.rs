@@ -7,7 +7,7 @@
 //! reads FILE, or standard input without it or with `-` for it. Each node and each token has a line with its kind, a token's text, line and
 //! column, behind two spaces for each node around it. A message stands where it belongs, behind `!`; tokens behind the section are counted in
 //! the last line. It ends with 0 for a text that is read, 1 for one that is refused, 2 if reading or writing failed.
-use gigboda::{property_tree, Mistake, Token, Tree, MOST_BYTES, MOST_EVENTS, MOST_NODES};
+use gigboda::{property_tree, Mistake, Token, Tree, EVENT_WORDS, MOST_BYTES, MOST_EVENTS, MOST_NODES};
 use std::ffi::{OsStr, OsString};
 use std::fmt::Display;
 use std::fs::File;
@@ -86,7 +86,7 @@ impl<W: Write> Printer<'_, W> {
 
 /// Prints the tree of a text, or why it is refused; whether it was read.
 fn print(text: &[u8], mut out: impl Write) -> io::Result<bool> {
-    let (mut tokens, mut events) = (vec![0; MOST_BYTES], vec![0; MOST_EVENTS]);
+    let (mut tokens, mut events) = (vec![0; MOST_BYTES], vec![0; EVENT_WORDS * MOST_EVENTS]);
     let mut records = vec![0; Tree::RECORD * MOST_NODES];
     match property_tree(text, &mut tokens, &mut events, &mut records) {
         Ok(tree) => {
