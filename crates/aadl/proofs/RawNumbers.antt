@@ -12,8 +12,7 @@ use Rattle.aadl.specs.declared.Token.{Token}
 use Rattle.aadl.specs.Bytes.{peek}
 use Rattle.aadl.specs.Tokens.{token, tokens, lengths}
 use Rattle.aadl.specs.Symbols.{is-trivia, symbol-of, Placed, placed, start-of, raw-numbers, raw-number, without-trivia, kinds}
-use Rattle.aadl.proofs.Lists.{Each}
-use Rattle.aadl.proofs.TokensCover.{tokens-cover-text, tokens-positive}
+use Rattle.aadl.proofs.TokensCover.{tokens-cover-text}
 
 -- DOWN THE TOKENS ------------------------------------------------------------------------------------------------------
 
@@ -140,12 +139,3 @@ module _ (text : List ℕ) where
       × (is-trivia (getD (kinds text) n 0) ≡ false)
   unfolding kinds
   raw-number-kind n h = rw (raw-number-in text n) (number-seen (tokens text) n h)
-
--- each token has a byte
-count-within : (ts : List Token) → Each (λ (t : Token). 1 ≤ t .len) ts → length ts ≤ lengths ts
-count-within [] h = zero-le
-count-within (t ∷ ts) h = omega (arith, h .0, count-within ts (h .1))
-
--- A text has at most as many tokens as bytes.
-pub tokens-within-text : (text : List ℕ) → length (tokens text) ≤ length text
-tokens-within-text text = omega (arith, count-within (tokens text) (tokens-positive text), tokens-cover-text text)

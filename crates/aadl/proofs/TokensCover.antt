@@ -72,6 +72,14 @@ tokens-positive bs = each-token (λ (t : Token). 1 ≤ t .len) (λ cs h. token-w
 pub kinds-small : (bs : List ℕ) → Each (λ (t : Token). t .kind < 128) (tokens bs)
 kinds-small bs = each-token (λ (t : Token). t .kind < 128) (λ cs h. token-kind-small cs) bs
 
+-- A text has at most as many tokens as bytes.
+count-within : (ts : List Token) → Each (λ (t : Token). 1 ≤ t .len) ts → length ts ≤ lengths ts
+count-within [] h = zero-le
+count-within (t ∷ ts) h = omega (arith, h .0, count-within ts (h .1))
+
+pub tokens-within-text : (bs : List ℕ) → length (tokens bs) ≤ length bs
+tokens-within-text bs = omega (arith, count-within (tokens bs) (tokens-positive bs), tokens-cover-text bs)
+
 -- BY NUMBER ------------------------------------------------------------------------------------------------------------
 
 pub token-by-number : (i : ℕ) (bs : List ℕ) (d : Token) → i < length (tokens bs) → getD (tokens bs) i d ≡ token-of (drop (lengths (take i (tokens bs))) bs)

@@ -21,7 +21,8 @@ use Rattle.aadl.specs.Reading.{events, reads-cleanly}
 use Rattle.aadl.specs.Values.{Constant, Outcome, exact, beyond, in-range, value, number-at, Association, association, nth-association, text-associations, with-value, value-refused}
 use Rattle.aadl.proofs.Lists.{each-at}
 use Rattle.aadl.proofs.SymbolLaws.{symbols-show-kinds}
-use Rattle.aadl.proofs.RawNumbers.{raw-number-counted, tokens-within-text}
+use Rattle.aadl.proofs.TokensCover.{tokens-within-text}
+use Rattle.aadl.proofs.RawNumbers.{raw-number-counted}
 use Rattle.aadl.proofs.EventPairs.{length-words-of, first-words-of}
 use Rattle.aadl.proofs.EventWords.{words-tell-events}
 use Rattle.aadl.proofs.EventTokens.{token-named-is}

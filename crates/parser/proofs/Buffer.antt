@@ -1,12 +1,15 @@
 -- The laws of the lent event words: what is written has the length of what was there; a Start may be changed before or after events
 -- are written behind it; and to change a Start that was just written is to write the changed one. All that is proved of words rests on
 -- these. Assumes nothing.
-use Prim.Native.Nat.{ℕ, _+_, _*_, _/_, _%_, _≤_, _<_}
+use Prim.Native.Nat.{ℕ, _+_, _-_, _*_, _/_, _%_, _≤_, _<_}
 use native.Mathlib.Omega.{arith}
 use mathlib.Core.Path.{_≡_, refl, sym, ap, ap₂, _∙_}
+use mathlib.Core.Bool.{Bool, true, false}
 use mathlib.Core.List.{List}
 use lib.ListN.{length, getD, set, length-set}
+use lib.Dec.{ltb}
 use lib.Seq.{set-out, set-set, set-comm, getD-set-same, getD-set-other}
+use borrow.Author.Tests.{lt-ltb, le-ltb, ltb-true, ltb-false}
 use Rattle.predictive.specs.Events.{Event, start}
 use Rattle.aadl.specs.Limits.{most-events}
 use Rattle.aadl.specs.Encoding.{event-word, words-for}
@@ -27,6 +30,17 @@ room-within b = omega arith
 pub room-most : (b : List ℕ) → room b ≤ most-events
 unfolding room
 room-most b = omega arith
+
+-- The first word of an event is there where the event's number is below half of the words, an odd last one being one of them.
+pub first-there : (m n : ℕ) → ltb m (n - n / 2) ≡ ltb (words-for m) n
+first-there m n = go (ltb m (n - n / 2)) refl
+  where
+    go : (t : Bool) → ltb m (n - n / 2) ≡ t → t ≡ ltb (words-for m) n
+    go true e = sym (lt-ltb (words-for m) n (omega (arith, ltb-true m (n - n / 2) e)))
+    go false e = sym (le-ltb (words-for m) n (omega (arith, ltb-false m (n - n / 2) e)))
+
+pub first-stands : (m n : ℕ) {t : Bool} → t ≡ ltb (words-for m) n → t ≡ true → words-for m < n
+first-stands m n e f = ltb-true (words-for m) n (sym e ∙ f)
 
 -- WORDS ----------------------------------------------------------------------------------------------------------------
 

@@ -18,13 +18,14 @@ use syntax_kind::is_trivia;
 ghost use mathlib.Core.Path.{_≡_};
 ghost use Prim.Native.Nat.{ℕ, _≤_, _<_};
 ghost use mathlib.Core.List.{List, [], _∷_};
-ghost use lib.ListN.{drop};
+ghost use lib.ListN.{length, drop};
+ghost use lib.Dec.{ltb};
 ghost use Rattle.predictive.specs.Forest.{message};
 ghost use Rattle.predictive.specs.Grammar.{Choice, one, two, tok, opt, any};
 ghost use Rattle.predictive.specs.Reader.{expected};
 ghost use Rattle.predictive.specs.Events as E;
 ghost use Rattle.aadl.specs.Symbols as Sym;
-ghost use Rattle.aadl.specs.Encoding.{event-word};
+ghost use Rattle.aadl.specs.Encoding.{event-word, words-for};
 ghost use Rattle.aadl.specs.Section.{property-name};
 ghost use Rattle.parser.specs.Input as I;
 ghost use Rattle.parser.specs.Input.{input};
@@ -307,12 +308,19 @@ fn room(events: &[u32]) -> usize
     if lent < MOST { lent } else { MOST }
 }
 
+// Whether the event with a number has a first word, which an odd number of words ends with.
+fn has_first(events: &[u32], number: usize) -> bool
+    ensures { λ r. ⌜ r ≡ ltb (words-for number) (length (now (events .entry))) ⌝ }
+{
+    number < events.len() - events.len() / 2
+}
+
 // Gives the Start of the event with a number its kind, in its first word.
 fn name_start(events: &mut [u32], place: usize, kind: u32)
     requires { ⌜ kind < 256 ⌝ }
     ensures { λ _. ⌜ now (events .exit) ≡ B.named place kind (now (events .entry)) ⌝ }
 {
-    if place < events.len() - events.len() / 2 {
+    if has_first(events, place) {
         events[place * 2] = start_word(kind);
     }
 }
@@ -322,7 +330,7 @@ fn link_start(events: &mut [u32], place: usize, distance: usize)
     requires { ⌜ distance < 65536 ⌝ }
     ensures { λ _. ⌜ now (events .exit) ≡ B.linked place distance (now (events .entry)) ⌝ }
 {
-    if place < events.len() - events.len() / 2 {
+    if has_first(events, place) {
         let at = place * 2;
         let w = events[at];
         events[at] = with_parent(w, distance);

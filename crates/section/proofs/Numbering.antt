@@ -11,7 +11,7 @@ use Rattle.aadl.specs.Tokens.{tokens, token-word}
 use Rattle.aadl.specs.Symbols.{raw-number}
 use Rattle.aadl.specs.Encoding.{event-word, words-of}
 use Rattle.aadl.specs.Answers.{token-words}
-use Rattle.aadl.proofs.RawNumbers.{tokens-within-text}
+use Rattle.aadl.proofs.TokensCover.{tokens-within-text}
 use Rattle.parser.specs.declared.Parser.{Parser}
 use Rattle.parser.specs.Input.{Input, input}
 use Rattle.parser.specs.State.{State, passed, pass, push, enter, emit}
