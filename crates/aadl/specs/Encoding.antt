@@ -54,6 +54,10 @@ abbrev pub words-of : (number : ℕ → ℕ) → (t : ℕ) → List Event → Li
 words-of number t [] = []
 words-of number t (e ∷ es) = event-word e ∷ number t ∷ words-of number (t + taken (e ∷ [])) es
 
+-- A token's number in a word. Whatever words stand for tokens, a parser stores where it stands; a text has fewer tokens than a word counts.
+abbrev pub cut-to-word : ℕ → ℕ
+cut-to-word n = n % 4294967296
+
 -- The first words of events, two words each: a last word that stands alone is none.
 unfoldable pub first-words : (words : List ℕ) → List ℕ
 first-words [] = []

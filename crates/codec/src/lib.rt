@@ -3,12 +3,12 @@
 
 ghost use mathlib.Core.Path.{_≡_};
 ghost use lib.ListN.{length, getD};
-ghost use Prim.Native.Nat.{_+_, _*_, _/_, _%_, _<_};
+ghost use Prim.Native.Nat.{_+_, _*_, _/_, _<_};
 ghost use Rattle.predictive.specs.Forest.{message};
 ghost use Rattle.predictive.specs.Events as E;
 ghost use Rattle.aadl.specs.Tokens as T;
 ghost use Rattle.aadl.specs.Tokens.{kind-in, length-in};
-ghost use Rattle.aadl.specs.Encoding.{event-word, class-in, last-in, first-words};
+ghost use Rattle.aadl.specs.Encoding.{event-word, class-in, last-in, cut-to-word, first-words};
 
 // BOTH
 
@@ -43,8 +43,10 @@ pub fn length_in(w: u32) -> usize
 
 // EVENTS
 
-// Second words are below.
-const SECOND: usize = 4294967296;
+// The words of an event, and how many numbers a word counts.
+pub const EVENT_WORDS: usize = 2;
+
+const NUMBERS: usize = 4294967296;
 
 // Class × 16,777,216 + kind × 65,536 + last. Class 0 is a Start, 1 a Token, whose last is 1, 2 Finish, 3 an Error.
 const CLASS: u32 = 16777216;
@@ -53,7 +55,7 @@ const CLASS: u32 = 16777216;
 pub fn events_told(events: &[u32]) -> usize
     ensures { λ r. ⌜ r ≡ length (first-words (now (events .entry))) ⌝ }
 {
-    events.len() / 2
+    events.len() / EVENT_WORDS
 }
 
 // The first word of the event with a number, from 0.
@@ -61,14 +63,14 @@ pub fn first_word(events: &[u32], number: usize) -> u32
     requires { ⌜ number < length (first-words (now events)) ⌝ }
     ensures { λ r. ⌜ r ≡ getD (first-words (now (events .entry))) number 0 ⌝ }
 {
-    events[number * 2]
+    events[number * EVENT_WORDS]
 }
 
-// The second word of an event, where the next untaken token has a number.
+// The second word of an event: the number of the next untaken token.
 pub fn second_word(token: usize) -> u32
-    ensures { λ r. ⌜ r ≡ token % 4294967296 ⌝ }
+    ensures { λ r. ⌜ r ≡ cut-to-word token ⌝ }
 {
-    (token % SECOND) as u32
+    (token % NUMBERS) as u32
 }
 
 pub fn class_in(w: u32) -> u32

@@ -4,6 +4,7 @@
 
 use aadl::Limits;
 use aadl::ValueAnswer;
+use codec::EVENT_WORDS;
 use codec::class_start;
 use codec::start_word;
 use codec::token_word;
@@ -179,7 +180,7 @@ pub fn association_value_within(
     let v = judge(
         src,
         &tokens[..a.tokens],
-        &events[..a.events * 2],
+        &events[..a.events * EVENT_WORDS],
         a.taken,
         number,
     );

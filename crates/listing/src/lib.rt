@@ -2,6 +2,7 @@
 // (proofs/EndToEnd). A program reads, asks for pieces and writes them; all that lies between is here.
 use aadl::Answer;
 use aadl::Limits;
+use codec::EVENT_WORDS;
 use codec::class_in;
 use codec::events_told;
 use codec::first_word;
@@ -139,7 +140,7 @@ fn more(
     let events: &[u32] = events;
     let n = least(l.bytes, READ);
     let t = least(a.tokens, TOKENS);
-    let e = least(a.events, EVENTS / 2) * 2;
+    let e = least(a.events, EVENTS / EVENT_WORDS) * EVENT_WORDS;
     let r = put_lines(
         &text[..n],
         &tokens[..t],

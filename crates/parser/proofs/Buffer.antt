@@ -1,7 +1,7 @@
 -- The laws of the lent event words: what is written has the length of what was there; a Start may be changed before or after events
 -- are written behind it; and to change a Start that was just written is to write the changed one. All that is proved of words rests on
 -- these. Assumes nothing.
-use Prim.Native.Nat.{ℕ, _+_, _-_, _*_, _/_, _%_, _≤_, _<_}
+use Prim.Native.Nat.{ℕ, _+_, _-_, _*_, _/_, _≤_, _<_}
 use native.Mathlib.Omega.{arith}
 use mathlib.Core.Path.{_≡_, refl, sym, ap, ap₂, _∙_}
 use mathlib.Core.Bool.{Bool, true, false}
@@ -12,7 +12,7 @@ use lib.Seq.{set-out, set-set, set-comm, getD-set-same, getD-set-other}
 use borrow.Author.Tests.{lt-ltb, le-ltb, ltb-true, ltb-false}
 use Rattle.predictive.specs.Events.{Event, start}
 use Rattle.aadl.specs.Limits.{most-events}
-use Rattle.aadl.specs.Encoding.{event-word, words-for}
+use Rattle.aadl.specs.Encoding.{event-word, words-for, cut-to-word}
 use Rattle.parser.specs.declared.Parser.{Parser}
 use Rattle.parser.specs.Buffer.{room, put, named, linked}
 use Rattle.parser.specs.State.{with-left}
@@ -45,7 +45,7 @@ first-stands m n e f = ltb-true (words-for m) n (sym e ∙ f)
 -- WORDS ----------------------------------------------------------------------------------------------------------------
 
 -- What the code stores: the word of the event and that of its token, of the Start of a kind, or with a forward parent; past the words nothing.
-pub put-words : (p : Parser) (e : Event) (w v : ℕ) (b : List ℕ) → w ≡ event-word e → v ≡ p .at % 4294967296 →
+pub put-words : (p : Parser) (e : Event) (w v : ℕ) (b : List ℕ) → w ≡ event-word e → v ≡ cut-to-word (p .at) →
     set (set b (words-for (p .used)) w) (words-for (p .used) + 1) v ≡ put p e b
 unfolding put
 put-words p e w v b h g = ap₂ (λ (x y : ℕ). set (set b (words-for (p .used)) x) (words-for (p .used) + 1) y) h g
@@ -69,7 +69,7 @@ linked-out m n b h = sym (set-out b (words-for m) (getD b (words-for m) 0 / 6553
 pub put-long : (p : Parser) (e : Event) (b : List ℕ) → length (put p e b) ≡ length b
 unfolding put
 put-long p e b =
-    length-set (set b (words-for (p .used)) (event-word e)) (words-for (p .used) + 1) (p .at % 4294967296)
+    length-set (set b (words-for (p .used)) (event-word e)) (words-for (p .used) + 1) (cut-to-word (p .at))
     ∙ length-set b (words-for (p .used)) (event-word e)
 
 -- the openers left do not matter
@@ -91,15 +91,15 @@ put-over : (p : Parser) (e : Event) (m w : ℕ) (b : List ℕ) → m < p .used �
 unfolding put
 put-over p e m w b h =
     let i = words-for (p .used) in
-    ap (λ (c : List ℕ). set c (i + 1) (p .at % 4294967296)) (sym (set-comm b i (words-for m) (event-word e) w (apart h)))
-    ∙ sym (set-comm (set b i (event-word e)) (i + 1) (words-for m) (p .at % 4294967296) w (apart-second m (p .used)))
+    ap (λ (c : List ℕ). set c (i + 1) (cut-to-word (p .at))) (sym (set-comm b i (words-for m) (event-word e) w (apart h)))
+    ∙ sym (set-comm (set b i (event-word e)) (i + 1) (words-for m) (cut-to-word (p .at)) w (apart-second m (p .used)))
 
 -- .. and is not one of them
 put-elsewhere : (p : Parser) (e : Event) (m : ℕ) (b : List ℕ) → m < p .used → getD (put p e b) (words-for m) 0 ≡ getD b (words-for m) 0
 unfolding put
 put-elsewhere p e m b h =
     let i = words-for (p .used) in
-    getD-set-other (set b i (event-word e)) (i + 1) (words-for m) (p .at % 4294967296) 0 (λ q. apart-second m (p .used) (sym q))
+    getD-set-other (set b i (event-word e)) (i + 1) (words-for m) (cut-to-word (p .at)) 0 (λ q. apart-second m (p .used) (sym q))
     ∙ getD-set-other b i (words-for m) (event-word e) 0 (λ q. apart h (sym q))
 
 -- A change of the words that no event sees which is written behind event number m.
@@ -126,8 +126,8 @@ put-again : (p : Parser) (d e : Event) (b : List ℕ) → set (put p d b) (words
 unfolding put
 put-again p d e b =
     let i = words-for (p .used) in
-    set-comm (set b i (event-word d)) (i + 1) i (p .at % 4294967296) (event-word e) (apart-second (p .used) (p .used))
-    ∙ ap (λ (c : List ℕ). set c (i + 1) (p .at % 4294967296)) (set-set b i (event-word d) (event-word e))
+    set-comm (set b i (event-word d)) (i + 1) i (cut-to-word (p .at)) (event-word e) (apart-second (p .used) (p .used))
+    ∙ ap (λ (c : List ℕ). set c (i + 1) (cut-to-word (p .at))) (set-set b i (event-word d) (event-word e))
 
 pub named-own : (p : Parser) (j up k : ℕ) (b : List ℕ) → named (p .used) k (put p (start j up) b) ≡ put p (start k 0) b
 unfolding named
@@ -139,6 +139,6 @@ linked-own p k n b h =
     let i = words-for (p .used) in
     let w = event-word (start k 0) in
     let own : getD (put p (start k 0) b) i 0 ≡ w =
-    getD-set-other (set b i w) (i + 1) i (p .at % 4294967296) 0 (λ q. apart-second (p .used) (p .used) (sym q)) ∙ getD-set-same b i w 0 (omega (arith, h)) in
+    getD-set-other (set b i w) (i + 1) i (cut-to-word (p .at)) 0 (λ q. apart-second (p .used) (p .used) (sym q)) ∙ getD-set-same b i w 0 (omega (arith, h)) in
     let link : getD (put p (start k 0) b) i 0 / 65536 * 65536 + n ≡ event-word (start k n) = omega (arith, own) in
     ap (set (put p (start k 0) b) i) link ∙ put-again p (start k 0) (start k n) b

@@ -1,6 +1,6 @@
 -- What stands in the lent words after events, while the parser goes on: the events' words in a row, two for each, and behind them what was there.
 -- Assumes nothing.
-use Prim.Native.Nat.{ℕ, zero, suc, _+_, _%_, _≤_, _<_, zero-le}
+use Prim.Native.Nat.{ℕ, zero, suc, _+_, _≤_, _<_, zero-le}
 use native.Mathlib.Omega.{arith}
 use native.Mathlib.Nat.{zero-add}
 use native.Mathlib.Numerals.{add-one}
@@ -9,7 +9,7 @@ use mathlib.Core.List.{List, [], _∷_, _++_}
 use lib.ListN.{length, drop}
 use lib.Seq.{sets, sets-eq}
 use Rattle.predictive.specs.Events.{Event, token}
-use Rattle.aadl.specs.Encoding.{event-word, words-for}
+use Rattle.aadl.specs.Encoding.{event-word, words-for, cut-to-word}
 use Rattle.parser.specs.declared.Parser.{Parser}
 use Rattle.parser.specs.Input.{Input}
 use Rattle.parser.specs.Buffer.{room, put}
@@ -31,7 +31,7 @@ module _ (inp : Input) where
   -- The words of events by the state before each: the event's own, and the number of the token where the parser then stands.
   unfoldable pub words-along : List Event → State → List ℕ
   words-along [] s = []
-  words-along (e ∷ es) s = event-word e ∷ s .parser .at % 4294967296 ∷ words-along es (enter inp e s)
+  words-along (e ∷ es) s = event-word e ∷ cut-to-word (s .parser .at) ∷ words-along es (enter inp e s)
 
   pub length-words-along : (es : List Event) (s : State) → length (words-along es s) ≡ words-for (length es)
   unfolding words-along

@@ -2,6 +2,7 @@
 // lent to be written, and the parser's counters go by value. Once the parser stopped, every function here leaves all as it is.
 
 use classes::peek;
+use codec::EVENT_WORDS;
 use codec::error_event;
 use codec::finish_event;
 use codec::kind_in;
@@ -304,11 +305,11 @@ const MOST: usize = 32768;
 fn room(events: &[u32]) -> usize
     ensures { λ r. ⌜ r ≡ B.room (now (events .entry)) ⌝ }
 {
-    let lent = events.len() / 2;
+    let lent = events.len() / EVENT_WORDS;
     if lent < MOST { lent } else { MOST }
 }
 
-// Whether the event with a number has a first word, which an odd number of words ends with.
+// Whether the event with a number has a first word: as many have one as half of the words, rounded up.
 fn has_first(events: &[u32], number: usize) -> bool
     ensures { λ r. ⌜ r ≡ ltb (words-for number) (length (now (events .entry))) ⌝ }
 {
@@ -321,7 +322,7 @@ fn name_start(events: &mut [u32], place: usize, kind: u32)
     ensures { λ _. ⌜ now (events .exit) ≡ B.named place kind (now (events .entry)) ⌝ }
 {
     if has_first(events, place) {
-        events[place * 2] = start_word(kind);
+        events[place * EVENT_WORDS] = start_word(kind);
     }
 }
 
@@ -331,7 +332,7 @@ fn link_start(events: &mut [u32], place: usize, distance: usize)
     ensures { λ _. ⌜ now (events .exit) ≡ B.linked place distance (now (events .entry)) ⌝ }
 {
     if has_first(events, place) {
-        let at = place * 2;
+        let at = place * EVENT_WORDS;
         let w = events[at];
         events[at] = with_parent(w, distance);
     }
@@ -346,7 +347,7 @@ fn push_event(events: &mut [u32], p: Parser, w: u32) -> Parser
     }
     let used = p.used;
     if used < room(events) {
-        let at = used * 2;
+        let at = used * EVENT_WORDS;
         events[at] = w;
         events[at + 1] = second_word(p.at);
         return with_used(p, used + 1);

@@ -4,6 +4,7 @@ use aadl::Answer;
 use aadl::Number;
 use aadl::TreeAnswer;
 use aadl::ValueAnswer;
+use codec::EVENT_WORDS;
 use lexer::part_numbers;
 use writing::least;
 use writing::put_byte;
@@ -132,7 +133,7 @@ fn put_answer(out: &mut [u8], at: usize, a: Answer) -> usize
 fn put_buffers(out: &mut [u8], at: usize, a: Answer, tokens: &[u32], events: &[u32]) -> usize
     ensures { λ r. ⌜ Wrote (now (out .entry)) at (10 ∷ word-lines a (now (tokens .entry)) (now (events .entry))) (now (out .exit)) r ⌝ }
 {
-    let used = least(a.events, events.len()) * 2;
+    let used = least(a.events, events.len()) * EVENT_WORDS;
     let mut end = put_byte(out, at, b'\n');
     end = put_line(out, end, b"tokens", tokens, a.tokens);
     end = put_line(out, end, b"events", events, used);

@@ -1,6 +1,6 @@
 -- The words that a parser over a text's tokens writes are the definition's: it stands at the raw number of the next untaken token, an event
 -- that takes no token leaves it there, and a Token moves it to the next. By induction over the events. Assumes nothing.
-use Prim.Native.Nat.{ℕ, suc, _+_, _%_, _<_}
+use Prim.Native.Nat.{ℕ, suc, _+_, _<_}
 use native.Mathlib.Omega.{arith}
 use mathlib.Core.Path.{_≡_, refl, sym, ap₂, subst, _∙_}
 use mathlib.Core.List.{List, [], _∷_}
@@ -9,7 +9,7 @@ use Rattle.predictive.specs.Forest.{message, refusal}
 use Rattle.predictive.specs.Events.{Event, start, token, finish, error, taken}
 use Rattle.aadl.specs.Tokens.{tokens, token-word}
 use Rattle.aadl.specs.Symbols.{raw-number}
-use Rattle.aadl.specs.Encoding.{event-word, words-of}
+use Rattle.aadl.specs.Encoding.{event-word, cut-to-word, words-of}
 use Rattle.aadl.specs.Answers.{token-words}
 use Rattle.aadl.proofs.TokensCover.{tokens-within-text}
 use Rattle.parser.specs.declared.Parser.{Parser}
@@ -26,10 +26,10 @@ module _ (text : List ℕ) (short : length text < 65536) where
   inp = input text (token-words text)
 
   -- The number where the parser stands is a word as it is.
-  number-whole : (k : ℕ) (p : Parser) → Behind text k p → p .at % 4294967296 ≡ raw-number text k
+  number-whole : (k : ℕ) (p : Parser) → Behind text k p → cut-to-word (p .at) ≡ raw-number text k
   number-whole k p x =
       let few : p .at < 65536 = omega (arith, x .where-it-is .counts, length-map (tokens text) token-word, tokens-within-text text, short) in
-      let whole : p .at % 4294967296 ≡ p .at = omega (arith, few) in
+      let whole : cut-to-word (p .at) ≡ p .at = omega (arith, few) in
       whole ∙ behind-at text k p x
 
   -- ONE EVENT ----------------------------------------------------------------------------------------------------------

@@ -3,6 +3,7 @@
 use aadl::Answer;
 use aadl::Limits;
 use aadl::TreeAnswer;
+use codec::EVENT_WORDS;
 use codec::class_in;
 use codec::events_told;
 use codec::first_word;
@@ -244,7 +245,7 @@ pub fn property_tree_within(
     if a.number != 0 {
         return without_records(records, a);
     }
-    let b = build(&events[..a.events * 2], records);
+    let b = build(&events[..a.events * EVENT_WORDS], records);
     if records.len() / 4 < b.records {
         let place = token_place(src, &tokens[..a.tokens], b.taken);
         clear(events);
