@@ -23,7 +23,8 @@ use Rattle.aadl.specs.Answers.{text-checks, section-checks, answered, al
 use Rattle.aadl.specs.Demand.{answered-events, Clean-answer, Read-as-derived}
 use Rattle.aadl.proofs.Characters.{Well-formed}
 use Rattle.aadl.proofs.Checks.{fails-by}
-use Rattle.aadl.proofs.Settled.{five-numbers, whole}
+use Rattle.aadl.specs.Calls.{plain, Call}
+use Rattle.aadl.proofs.Settled.{whole}
 use Rattle.aadl.proofs.AnswerLaws.{left-answered}
 use Rattle.aadl.proofs.SymbolLaws.{symbols-show-kinds}
 use Rattle.aadl.proofs.Demand3.{Demand-3, demand-3}
@@ -58,7 +59,8 @@ module _ (limits : Limits) (text : List ℕ) (m n : ℕ) where
   unfolding section-answer too-deep
   answered-whole z =
       let cs = text-checks limits text m ++ section-checks limits text (room n) in
-      let w = whole five-numbers cs refl (all-answered limits text) (section-answer limits text m n) refl refl [] tt z in
+      let c : Call plain = record { checks = cs; all = all-answered limits text; buffers = [] } in
+      let w = whole {call = c} (refl, refl) (record { answer = refl; exit = refl }) z in
       let d : erring stops es ≡ false = fails-by 6 cs (w .none) in
       let f : length (pushed es) ≤ room n = ltb-false (room n) (length (pushed es)) (fails-by 5 cs (w .none)) in
       record {

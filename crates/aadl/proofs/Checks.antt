@@ -6,11 +6,7 @@ use mathlib.Core.Bool.{Bool, true, false, _&&_, cond}
 use mathlib.Core.List.{List, [], _∷_, _++_}
 use lib.Dec.{leb, eqb}
 use Rattle.aadl.specs.Answers.{Check, check, checked}
-use Rattle.aadl.proofs.Lists.{Each}
-
--- the check's case does not hold
-abbrev pub Fails : Check → Type 0
-Fails (check n case place) = case ≡ false
+use Rattle.aadl.specs.Calls.{Each, Fails}
 
 -- the case of the check with a number
 abbrev pub case-of : (number : ℕ) → List Check → Bool

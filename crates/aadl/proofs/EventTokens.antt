@@ -31,7 +31,7 @@ use Rattle.aadl.proofs.TokensCover.{tokens-cover-text, kinds-small}
 use Rattle.aadl.proofs.SymbolLaws.{symbols-show-kinds}
 use Rattle.aadl.proofs.RawNumbers.{raw-number-rises, raw-number-counted, raw-number-place, raw-number-kind}
 use Rattle.aadl.proofs.EventWords.{first-words-tell}
-use Rattle.aadl.proofs.TreeAnswers.{rooted, rooted-records}
+use Rattle.aadl.proofs.Root.{rooted, rooted-records}
 use Rattle.aadl.proofs.NodesOpen.{firsts, first-of, firsts-records, opened-named}
 use Rattle.aadl.proofs.TokenText.{counted, token-at}
 

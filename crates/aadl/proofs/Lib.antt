@@ -17,6 +17,7 @@ pub mod Unmarked
 pub mod Demand3
 pub mod Checks
 pub mod Settled
+pub mod Extending
 pub mod AnswerLaws
 pub mod Refusals
 pub mod NeverClean
@@ -25,10 +26,9 @@ pub mod EventPairs
 pub mod EventWords
 pub mod AnswerDerived
 pub mod RecordLaws
-pub mod TreeAnswers
+pub mod Root
 pub mod NodesOpen
 pub mod EventTokens
-pub mod ValueAnswers
 pub mod RecordsUpwards
 pub mod Computing
 pub mod Examples
@@ -49,3 +49,6 @@ pub mod Locality
 pub mod StringTokens
 pub mod NumberLaws
 pub mod NumberTokens
+pub mod CallsRead
+pub mod TreeCalls
+pub mod ValueCalls

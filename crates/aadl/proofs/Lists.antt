@@ -8,6 +8,7 @@ use mathlib.Core.Bool.{Bool, true, _&&_}
 use mathlib.Core.List.{List, [], _∷_, _++_}
 use lib.ListN.{length, getD, drop, set}
 use Rattle.predictive.proofs.Tests.{and-l, and-r}
+pub use Rattle.aadl.specs.Calls.{Each}
 
 module _ {ℓ} {A : Type ℓ} where
   -- mathlib's `all` does not compute outside its module
@@ -19,11 +20,6 @@ module _ {ℓ} {A : Type ℓ} where
   every-at p [] i d l e = absurd (not-suc-le-zero l)
   every-at p (x ∷ xs) zero d l e = and-l (p x) (every p xs) e
   every-at p (x ∷ xs) (suc i) d l e = every-at p xs i d (le-of-suc-le-suc l) (and-r (p x) (every p xs) e)
-
-  -- every element has the property
-  abbrev pub Each : (A → Type 0) → List A → Type 0
-  Each P [] = Unit {0}
-  Each P (x ∷ xs) = P x × Each P xs
 
   module _ (P : A → Type 0) where
     pub each-append : (xs ys : List A) → Each P xs → Each P ys → Each P (xs ++ ys)

@@ -24,8 +24,7 @@ use Rattle.aadl.proofs.Bools.{false-unless, bounds}
 use Rattle.aadl.proofs.TokenBounds.{token-cases, token-positive, number-upto, number-kind, word-kind, mark-kind}
 use Rattle.aadl.proofs.Separators.{nothing-separates}
 use Rattle.aadl.proofs.Locality.{number-again}
-use Rattle.aadl.proofs.TokenText.{token-at, filled-told}
-use Rattle.aadl.proofs.Settled.{tokens-answer-is-whole}
+use Rattle.aadl.proofs.TokenText.{token-at}
 use Rattle.aadl.proofs.NumberLaws.{no-digit-there, digit-there}
 
 -- WHICH TOKENS ARE NUMBERS ---------------------------------------------------------------------------------------------
@@ -121,10 +120,3 @@ module _ (text rest : List ℕ) (s : length text < 65536) (i : ℕ) (h : i < len
 
 pub numbers-told : (text rest : List ℕ) → length text < 65536 → Numbers-told text (length (tokens text)) (token-words text ++ rest)
 numbers-told text rest s i h = told text rest s i h (is-digit (peek (bs text rest s i h) 0)) refl
-
--- Of the tokens-only call, to which the words old were lent and which left the words ts.
-pub tokens-numbers : (limits : Limits) (text old ts : List ℕ) (a : Answer) → Allowed limits → a ≡ tokens-answer limits text (length old) →
-    ts ≡ left-in a (token-words text) old → a .number ≡ 0 → Numbers-told text (a .tokens) ts
-tokens-numbers limits text old ts a allowed e w z =
-    filled-told (Numbers-told text) limits text old ts (text-checks limits text (length old)) (all-tokens text) a [] allowed refl refl
-    (tokens-answer-is-whole limits text old ts a e w z) (numbers-told text)

@@ -7,7 +7,8 @@ use Rattle.aadl.specs.Limits.{base}
 use Rattle.aadl.specs.Kinds.{#_, PROPERTY-SECTION, PROPERTY-ASSOCIATION, PROPERTY-REF, INTEGER-VALUE, RANGE-VALUE, BINARY-EXPR, APPLIES-TO, CONTAINMENT-PATH}
 use Rattle.aadl.specs.Words.{bytes}
 use Rattle.aadl.specs.Answers.{answered}
-use Rattle.aadl.specs.Records.{Record, of-node, records-from, records, text-records, tree-refused, tree-answer, with-records}
+use Rattle.aadl.specs.Records.{Record, of-node, records-from, records, text-records, tree-refused, tree-call, tree-answer, with-records}
+use Rattle.aadl.specs.Calls.{tokens-call, section-call}
 use Rattle.aadl.proofs.Computing.{definitions}
 
 abbrev recorded : List ℕ → List Record
@@ -59,5 +60,5 @@ pub record Answers : Type 0 where
   pub never-closed : tree-answer base (bytes "properties A => \"1") 7 0 0 ≡ tree-refused 8 16
 
 pub answers : Answers
-unfolding definitions records-from records text-records leaves tree-answer
+unfolding definitions records-from records text-records leaves tree-answer tree-call section-call tokens-call
 answers = record { bare = refl; no-words = refl; one-short = refl; enough = refl; at-end = refl; events-first = refl; never-closed = refl }

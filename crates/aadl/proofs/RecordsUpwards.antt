@@ -20,7 +20,7 @@ use Rattle.aadl.specs.Symbols.{symbols, kinds}
 use Rattle.aadl.specs.Reading.{events}
 use Rattle.aadl.specs.Records.{Record, of-node, records-from, records, text-records}
 use Rattle.aadl.proofs.SymbolLaws.{symbols-show-kinds}
-use Rattle.aadl.proofs.TreeAnswers.{rooted, rooted-records}
+use Rattle.aadl.proofs.Root.{rooted, rooted-records}
 
 -- WHAT IT SAYS ---------------------------------------------------------------------------------------------------------
 

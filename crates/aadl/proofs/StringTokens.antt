@@ -1,28 +1,22 @@
 -- The strings of a text that passes check 8 (`strings-closed`): the text of each, read by itself, is one string and closed. By the law of locality,
--- nothing being behind it. So of the words that a call left which has this check (`filled-closed`). Assumes nothing.
+-- nothing being behind it. Assumes nothing.
 use Prim.Native.Nat.{ℕ, _≤_, _<_}
 use mathlib.Core.Path.{_≡_, refl, sym, ap, _∙_}
-use mathlib.Core.Bool.{true, not}
-use mathlib.Core.List.{List, [], _∷_, _++_, append-nil}
+use mathlib.Core.Bool.{true}
+use mathlib.Core.List.{List, [], _++_, append-nil}
 use lib.ListN.{length, getD, take, drop, take-append-drop}
 use lib.Seq.{length-take-le}
-use lib.Dec.{eqb, ltb}
-use borrow.Author.Tests.{eqb-true, not-false}
 use Rattle.aadl.specs.declared.Token.{Token}
-use Rattle.aadl.specs.declared.Answer.{Answer}
-use Rattle.aadl.specs.Limits.{Limits, Allowed}
 use Rattle.aadl.specs.Kinds.{STRING-LIT, #_}
 use Rattle.aadl.specs.Tokens.{token, token-of, tokens, unclosed, kind-in, from-token, token-text}
 use Rattle.aadl.specs.Symbols.{is-trivia}
-use Rattle.aadl.specs.Answers.{Check, text-checks, all-tokens, tokens-answer, left-in, token-words}
+use Rattle.aadl.specs.Answers.{token-words}
 use Rattle.aadl.proofs.Lists.{each-at}
 use Rattle.aadl.proofs.TokenBounds.{token-within}
 use Rattle.aadl.proofs.Unclosed.{all-closed}
 use Rattle.aadl.proofs.Separators.{nothing-separates}
 use Rattle.aadl.proofs.Locality.{token-again}
-use Rattle.aadl.proofs.TokenText.{token-at, filled-told}
-use Rattle.aadl.proofs.Checks.{case-of, fails-by}
-use Rattle.aadl.proofs.Settled.{Lent, lent, five-numbers, Answered-whole, tokens-answer-is-whole}
+use Rattle.aadl.proofs.TokenText.{token-at}
 
 -- some bytes that begin with a string, closed: its text is such a string too
 string-alone : (bs : List ℕ) → 1 ≤ length bs → token-of bs .kind ≡ # STRING-LIT → token-of bs .closed ≡ true →
@@ -50,19 +44,3 @@ strings-closed text u rest s i h k =
     let closed = each-at (λ (x : Token). x .closed ≡ true) (tokens text) i (token 0 0) h (all-closed text u) in
     let alone = string-alone (from-token text (token-words text ++ rest) i) (t .some) (sym (t .kind) ∙ k) (sym (ap (λ (x : Token). x .closed) (t .token-is)) ∙ closed) in
     rw (t .text-is) alone
-
--- Of a call that answers by 01's five numbers and refuses nothing, whatever its checks, if 8 is among them.
-pub filled-closed : (limits : Limits) (text old ts : List ℕ) (cs : List Check) (all a : Answer) (buffers : List Lent) → Allowed limits →
-    case-of 1 cs ≡ ltb (limits .bytes) (length text) → case-of 8 cs ≡ not (eqb (unclosed (tokens text)) (length text)) → all .tokens ≡ length (tokens text) →
-    Answered-whole five-numbers cs all a (lent old (token-words text) ts ∷ buffers) → Strings-closed text (a .tokens) ts
-filled-closed limits text old ts cs all a buffers allowed one eight count x =
-    let same = eqb (unclosed (tokens text)) (length text) in
-    let closed = eqb-true (unclosed (tokens text)) (length text) (not-false same (sym eight ∙ fails-by 8 cs (x .none))) in
-    filled-told (Strings-closed text) limits text old ts cs all a buffers allowed one count x (strings-closed text closed)
-
--- Of the tokens-only call, to which the words old were lent and which left the words ts.
-pub tokens-closed : (limits : Limits) (text old ts : List ℕ) (a : Answer) → Allowed limits → a ≡ tokens-answer limits text (length old) →
-    ts ≡ left-in a (token-words text) old → a .number ≡ 0 → Strings-closed text (a .tokens) ts
-tokens-closed limits text old ts a allowed e w z =
-    filled-closed limits text old ts (text-checks limits text (length old)) (all-tokens text) a [] allowed refl refl refl
-    (tokens-answer-is-whole limits text old ts a e w z)

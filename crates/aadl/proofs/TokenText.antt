@@ -1,24 +1,22 @@
 -- The token words of a text, with any words behind them: where each token starts, and that its kind and its text come back from its word
 -- (`Token-at`), since the words before it count the bytes before it (`counted`). What the sum of the lengths in any words says of a
--- token's text; and that what holds of a text's words, with any behind them, holds of those that a call left (`filled-told`). Assumes nothing.
+-- token's text; and that what holds of a text's words, with any behind them, holds of those that a call left (`read-told`). Assumes nothing.
 use Prim.Native.Nat.{ℕ, zero, suc, _+_, _≤_, _<_}
 use native.Mathlib.Nat.{not-suc-le-zero, le-of-suc-le-suc}
 use native.Mathlib.Omega.{arith}
 use mathlib.Core.Path.{_≡_, refl, sym, ap, ap₂, subst, _∙_}
 use mathlib.Core.List.{List, [], _∷_, _++_, map}
 use lib.ListN.{length, getD, take, drop, length-drop, length-map, length-append, List·getD-append, List·getD-map}
-use lib.Dec.{ltb}
-use borrow.Author.Tests.{lt-ltb, le-ltb, le-leb, lt-leb, ltb-false}
+use lib.Dec.{eqb}
+use borrow.Author.Tests.{lt-ltb, le-ltb, le-leb, lt-leb, ltb-false, eqb-true, not-false}
 use Rattle.aadl.specs.declared.Token.{Token}
-use Rattle.aadl.specs.declared.Answer.{Answer}
 use Rattle.aadl.specs.Limits.{Limits, Allowed}
-use Rattle.aadl.specs.Tokens.{token, token-of, tokens, lengths, token-word, length-in, kind-in, total, from-token, token-text}
-use Rattle.aadl.specs.Answers.{Check, token-words}
-use Rattle.aadl.proofs.Lists.{Each}
+use Rattle.aadl.specs.Tokens.{token, token-of, tokens, unclosed, lengths, token-word, length-in, kind-in, total, from-token, token-text}
+use Rattle.aadl.specs.Answers.{Check, text-checks, token-words}
+use Rattle.aadl.specs.Calls.{lent, filled, Each, Fails}
 use Rattle.aadl.proofs.TokenBounds.{token-positive, token-kind-small}
 use Rattle.aadl.proofs.TokensCover.{tokens-cover-text, kinds-small, token-by-number, lengths-around}
-use Rattle.aadl.proofs.Checks.{case-of, fails-by}
-use Rattle.aadl.proofs.Settled.{Lent, lent, five-numbers, Answered-whole}
+use Rattle.aadl.proofs.Checks.{fails-by}
 
 -- ANY WORDS ------------------------------------------------------------------------------------------------------------
 
@@ -89,13 +87,29 @@ token-at text rest i s h =
 
 -- THE WORDS THAT A CALL LEFT -------------------------------------------------------------------------------------------
 
--- P holds of a text's token words, their number and any words behind them. So of a call that answers by 01's five numbers and refuses nothing,
--- whatever its checks: it passed check 1, counts the text's tokens, and its first buffer is filled.
-pub filled-told : (P : ℕ → List ℕ → Type 0) (limits : Limits) (text old ts : List ℕ) (cs : List Check) (all a : Answer) (buffers : List Lent) →
-    Allowed limits → case-of 1 cs ≡ ltb (limits .bytes) (length text) → all .tokens ≡ length (tokens text) →
-    Answered-whole five-numbers cs all a (lent old (token-words text) ts ∷ buffers) →
-    ((rest : List ℕ) → length text < 65536 → P (length (tokens text)) (token-words text ++ rest)) → P (a .tokens) ts
-filled-told P limits text old ts cs all a buffers allowed one count x holds =
-    let short = ltb-false (limits .bytes) (length text) (sym one ∙ fails-by 1 cs (x .none)) in
-    subst (λ (n : ℕ). P n ts) (sym (ap (λ (r : Answer). r .tokens) (x .counts) ∙ count))
-    (subst (P (length (tokens text))) (sym (x .filled .0)) (holds (drop (length (token-words text)) old) (omega (arith, allowed, short))))
+-- Of a call that refuses nothing: it was lent the words old for tokens, counts n of them and left the words ts. The text is short, its strings are closed,
+-- its tokens are counted, and the words are filled.
+pub record Tokens-read (text old : List ℕ) (n : ℕ) (ts : List ℕ) : Type 0 where
+  pub short : length text < 65536
+  pub closed : unclosed (tokens text) ≡ length text
+  pub count : n ≡ length (tokens text)
+  pub fills : ts ≡ filled (lent old (token-words text))
+
+-- Any call whose checks begin with those of the text is such a one.
+pub text-read : (limits : Limits) (text old : List ℕ) (own : List Check) (n : ℕ) (ts : List ℕ) → Allowed limits →
+    Each Fails (text-checks limits text (length old) ++ own) → n ≡ length (tokens text) → ts ≡ filled (lent old (token-words text)) → Tokens-read text old n ts
+text-read limits text old own n ts allowed none count fills =
+    let cs = text-checks limits text (length old) ++ own in
+    let short = ltb-false (limits .bytes) (length text) (fails-by 1 cs none) in
+    record {
+      short = omega (arith, allowed, short);
+      closed = eqb-true (unclosed (tokens text)) (length text) (not-false (eqb (unclosed (tokens text)) (length text)) (fails-by 8 cs none));
+      count = count;
+      fills = fills;
+    }
+
+-- So what holds of a text's token words, their number and any words behind them, holds of those that it left.
+pub read-told : (P : ℕ → List ℕ → Type 0) {text old : List ℕ} {n : ℕ} {ts : List ℕ} → Tokens-read text old n ts →
+    ((rest : List ℕ) → length text < 65536 → P (length (tokens text)) (token-words text ++ rest)) → P n ts
+read-told P {text} {old} {ts} x holds =
+    subst (λ (k : ℕ). P k ts) (sym (x .count)) (subst (P (length (tokens text))) (sym (x .fills)) (holds (drop (length (token-words text)) old) (x .short)))

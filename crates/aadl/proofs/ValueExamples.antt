@@ -10,12 +10,13 @@ use Rattle.aadl.specs.Limits.{base}
 use Rattle.aadl.specs.Words.{bytes}
 use Rattle.aadl.specs.Reading.{reads-cleanly}
 use Rattle.aadl.specs.Answers.{answered}
-use Rattle.aadl.specs.Values.{digits, number-by, all-below, literal-number, number-at, value, children, associations, associations-in, text-associations, with-value, value-refused, value-answer}
+use Rattle.aadl.specs.Values.{digits, number-by, all-below, literal-number, number-at, value, children, associations, associations-in, text-associations, with-value, value-refused, value-call, value-answer}
+use Rattle.aadl.specs.Calls.{tokens-call, section-call}
 use Rattle.aadl.proofs.Computing.{definitions}
 
 -- what values are made of besides
 unfoldable more-definitions : Unit {0}
-unfolding definitions leaves digits number-by all-below literal-number number-at value children associations reads-cleanly associations-in text-associations value-answer
+unfolding definitions leaves digits number-by all-below literal-number number-at value children associations reads-cleanly associations-in text-associations value-answer value-call section-call tokens-call
 more-definitions = tt
 
 -- the association with a number

@@ -27,8 +27,7 @@ use Rattle.aadl.proofs.SameRuns.{run-same}
 use Rattle.aadl.proofs.TokenBounds.{run-within, token-within}
 use Rattle.aadl.proofs.KeywordKinds.{row-is-lower, own-kind}
 use Rattle.aadl.proofs.LowerCase.{word-starts, token-of-word, word-whole, lower-starts, run-lower}
-use Rattle.aadl.proofs.TokenText.{Token-at, token-at, filled-told}
-use Rattle.aadl.proofs.Settled.{tokens-answer-is-whole}
+use Rattle.aadl.proofs.TokenText.{Token-at, token-at}
 
 -- THE FIRST TOKEN OF SOME BYTES ----------------------------------------------------------------------------------------
 
@@ -105,13 +104,6 @@ words-told text rest s =
 
     at : (i : ℕ) → i < length (tokens text) → Token-at text ts i
     at i h = token-at text rest i s h
-
--- Of the tokens-only call, to which the words old were lent and which left the words ts.
-pub tokens-told : (limits : Limits) (text old ts : List ℕ) (a : Answer) → Allowed limits → a ≡ tokens-answer limits text (length old) →
-    ts ≡ left-in a (token-words text) old → a .number ≡ 0 → Words-told text (a .tokens) ts
-tokens-told limits text old ts a allowed e w z =
-    filled-told (Words-told text) limits text old ts (text-checks limits text (length old)) (all-tokens text) a [] allowed refl refl
-    (tokens-answer-is-whole limits text old ts a e w z) (words-told text)
 
 -- ONE OF THE EIGHTY-ONE WORDS, AND ANY OTHER ---------------------------------------------------------------------------
 

@@ -11,8 +11,10 @@ pub mod Section
 pub mod Encoding
 pub mod Reading
 pub mod Answers
+pub mod Calls
 pub mod Demand
 pub mod Records
 pub mod EventTokens
 pub mod Values
+pub mod Contracts
 pub mod Listing

@@ -1,8 +1,8 @@
 -- 02's request One: a tree's nodes as records in lent words, the tree call's check and answer, and what its records are. Assumes nothing.
 use Prim.Native.Nat.{ℕ, zero, suc, _+_, _/_}
-use mathlib.Core.Path.{_≡_}
+use mathlib.Core.Path.{_≡_, refl}
 use mathlib.Core.List.{List, [], _∷_, _++_, map}
-use lib.ListN.{length, getD, drop}
+use lib.ListN.{length, getD, drop, replicate}
 use lib.Dec.{ltb}
 use Rattle.predictive.specs.Forest.{Forest, nil, leaf, err, node, wrap, leaves}
 use Rattle.predictive.specs.Tree.{spell}
@@ -10,9 +10,9 @@ use Rattle.aadl.specs.declared.Answer.{Answer}
 use Rattle.aadl.specs.declared.TreeAnswer.{TreeAnswer}
 use Rattle.aadl.specs.Limits.{Limits}
 use Rattle.aadl.specs.Symbols.{symbols, kinds, start-of}
-use Rattle.aadl.specs.Encoding.{room}
 use Rattle.aadl.specs.Reading.{events, Derivation}
-use Rattle.aadl.specs.Answers.{Check, check, text-checks, section-checks, refused, all-answered, checked}
+use Rattle.aadl.specs.Answers.{Check, check, refused}
+use Rattle.aadl.specs.Calls.{Form, lent, Call, answer-of, Extension, extending, section-call}
 use Rattle.aadl.specs.Demand.{answered-events}
 
 -- RECORDS --------------------------------------------------------------------------------------------------------------
@@ -83,12 +83,24 @@ with-records a n = record { answer = a; records = n }
 abbrev pub tree-refused : (number place : ℕ) → TreeAnswer
 tree-refused n p = with-records (refused n p) 0
 
-abbrev pub all-recorded : Limits → (text : List ℕ) → TreeAnswer
-all-recorded limits text = with-records (all-answered limits text) (length (text-records limits text))
+-- What the tree call adds to the section call, and the call.
+abbrev pub six-numbers : Form TreeAnswer
+six-numbers = record { five = λ a. a .answer; bare = λ a. with-records a 0; shown = λ a. refl }
 
+abbrev pub recording : Limits → (text rows : List ℕ) → Extension six-numbers
+recording limits text rows =
+    record {
+      own = tree-checks limits text (record-room (length rows));
+      added = λ a. with-records a (length (text-records limits text));
+      more = lent rows (record-words limits text) ∷ [];
+    }
+
+unfoldable pub tree-call : Limits → (text tokens events records : List ℕ) → Call six-numbers
+tree-call limits text tokens last rows = extending (section-call limits text tokens last) (recording limits text rows)
+
+-- Its answer by how many words are lent: what they hold does not matter to it.
 unfoldable pub tree-answer : Limits → (text : List ℕ) → (lent-tokens lent-events lent-records : ℕ) → TreeAnswer
-tree-answer limits text m n r =
-    checked tree-refused ((text-checks limits text m ++ section-checks limits text (room n)) ++ tree-checks limits text (record-room r)) (all-recorded limits text)
+tree-answer limits text m n r = answer-of (tree-call limits text (replicate m 0) (replicate n 0) (replicate r 0))
 
 -- WHAT THE RECORDS ARE -------------------------------------------------------------------------------------------------
 

@@ -2,11 +2,11 @@
 -- stands for, what a constant is and what it comes to, on the tree that is derived; the value call's checks 9 and 10, and its answer.
 -- Numbers here are exact. Assumes nothing.
 use Prim.Native.Nat.{ℕ, zero, suc, _+_, _-_, _*_}
-use mathlib.Core.Path.{_≡_}
+use mathlib.Core.Path.{_≡_, refl}
 use mathlib.Core.Bool.{Bool, true, false, not, _&&_, _||_, cond}
 use mathlib.Core.List.{List, [], _∷_, _++_}
 use mathlib.Core.Option.{Option, none, some}
-use lib.ListN.{length, getD, take, drop}
+use lib.ListN.{length, getD, take, drop, replicate}
 use lib.Dec.{leb, ltb, eqb}
 use lib.IntN.{ℤ, pos, negsuc, negℤ, _+ℤ_, _-ℤ_, _*ℤ_}
 use lib.Signed.{leZ}
@@ -20,9 +20,9 @@ use Rattle.aadl.specs.Kinds.{PLUS, MINUS, STAR, PROPERTY-ASSOCIATION, PR
 use Rattle.aadl.specs.Bytes.{within, is-digit}
 use Rattle.aadl.specs.Tokens.{number-of}
 use Rattle.aadl.specs.Symbols.{symbols, kinds, start-of}
-use Rattle.aadl.specs.Encoding.{room}
 use Rattle.aadl.specs.Reading.{events, reads-cleanly, Derivation}
-use Rattle.aadl.specs.Answers.{Check, check, text-checks, section-checks, refused, all-answered, checked}
+use Rattle.aadl.specs.Answers.{Check, check, refused}
+use Rattle.aadl.specs.Calls.{Form, Call, answer-of, Extension, extending, section-call}
 
 -- LITERALS -------------------------------------------------------------------------------------------------------------
 
@@ -279,12 +279,24 @@ with-value a z = record { answer = a; value = z }
 abbrev pub value-refused : (number place : ℕ) → ValueAnswer
 value-refused n p = with-value (refused n p) (pos 0)
 
-abbrev pub all-valued : Limits → (text : List ℕ) → (number : ℕ) → ValueAnswer
-all-valued limits text n = with-value (all-answered limits text) (exact-value (outcome-of (nth-association n (text-associations limits text) .constant)))
+-- What the value call adds to the section call, and the call.
+abbrev pub six-with-value : Form ValueAnswer
+six-with-value = record { five = λ a. a .answer; bare = λ a. with-value a (pos 0); shown = λ a. refl }
 
+abbrev pub valuing : Limits → (text : List ℕ) → (number : ℕ) → Extension six-with-value
+valuing limits text n =
+    record {
+      own = value-checks limits text n;
+      added = λ a. with-value a (exact-value (outcome-of (nth-association n (text-associations limits text) .constant)));
+      more = [];
+    }
+
+unfoldable pub value-call : Limits → (text tokens events : List ℕ) → (number : ℕ) → Call six-with-value
+value-call limits text tokens last n = extending (section-call limits text tokens last) (valuing limits text n)
+
+-- Its answer by how many words are lent: what they hold does not matter to it.
 unfoldable pub value-answer : Limits → (text : List ℕ) → (lent-tokens lent-events number : ℕ) → ValueAnswer
-value-answer limits text m n k =
-    checked value-refused ((text-checks limits text m ++ section-checks limits text (room n)) ++ value-checks limits text k) (all-valued limits text k)
+value-answer limits text m n k = answer-of (value-call limits text (replicate m 0) (replicate n 0) k)
 
 -- Of an answer that refuses nothing: the text has a derivation, of which the association with the number has a constant, and that comes
 -- exactly to the value.

@@ -1,5 +1,6 @@
 -- What the exported calls write into lent numbers. Assumes nothing.
 use Prim.Native.Nat.{ℕ, min}
+use mathlib.Core.Path.{_≡_}
 use mathlib.Core.List.{List, [], _∷_, _++_}
 use lib.ListN.{length, take, drop}
 use Rattle.aadl.specs.declared.Answer.{Answer}
@@ -12,13 +13,16 @@ use Rattle.lexer.specs.Filling.{write}
 abbrev pub numbers : Answer → List ℕ
 numbers a = a .number ∷ a .place ∷ a .tokens ∷ a .taken ∷ a .events ∷ []
 
--- Lent numbers at exit: an answer's over the first of them, as many as are lent; the others as they were.
-unfoldable pub told : Answer → (old : List ℕ) → List ℕ
-told a old = write (numbers a) old
-
 -- "The answer gains the number of records": a sixth number, behind the five.
-unfoldable pub tree-told : TreeAnswer → (old : List ℕ) → List ℕ
-tree-told a old = write (numbers (a .answer) ++ (a .records ∷ [])) old
+abbrev pub six-in-a-row : TreeAnswer → List ℕ
+six-in-a-row a = numbers (a .answer) ++ (a .records ∷ [])
+
+-- An exported call: the library's call gave an answer that keeps its promise, and the answer's numbers are written over the first of the lent ones, as
+-- many as are lent; the others are as they were.
+pub record Exported {A : Type 0} (numbers : A → List ℕ) (Promise : A → Type 0) (old new : List ℕ) : Type 0 where
+  pub answer : A
+  pub promise : Promise answer
+  pub told : new ≡ write (numbers answer) old
 
 -- Where a token's text starts: where the lengths before it sum to, but never past the text's end.
 abbrev pub text-start : (text words : List ℕ) → (number : ℕ) → ℕ

@@ -7,13 +7,9 @@ ghost use lib.ListN.{length, set};
 ghost use Rattle.aadl.specs.Limits.{base};
 ghost use Rattle.aadl.specs.Tokens.{from-token, token-text};
 ghost use Rattle.aadl.specs.NumberParts.{number-parts, Parts-hold};
-ghost use Rattle.aadl.specs.WordKinds.{Words-told};
-ghost use Rattle.aadl.specs.Answers.{tokens-answer, section-answer, token-words, event-words, left-in};
-ghost use Rattle.aadl.specs.Demand.{Read-as-derived};
-ghost use Rattle.aadl.specs.Records.{record-words, tree-answer, Recorded};
-ghost use Rattle.aadl.specs.Values.{value-answer, Valued};
+ghost use Rattle.aadl.specs.Contracts.{Tokens-called, Section-called, Tree-called, Value-called};
 ghost use Rattle.lexer.specs.Filling.{write};
-ghost use Rattle.capi.specs.Numbers.{told, tree-told, text-start, part-told, part-of, parts-told};
+ghost use Rattle.capi.specs.Numbers.{numbers, six-in-a-row, Exported, text-start, part-told, part-of, parts-told};
 
 // Sets a number if it is lent.
 fn put(lent: &mut [usize], at: usize, n: usize)
@@ -37,7 +33,7 @@ fn tell(lent: &mut [usize], numbers: &[usize])
 
 // An answer's five numbers.
 fn tell_answer(lent: &mut [usize], a: Answer)
-    ensures { λ r. ⌜ now (lent .exit) ≡ told a (now (lent .entry)) ⌝ }
+    ensures { λ r. ⌜ now (lent .exit) ≡ write (numbers a) (now (lent .entry)) ⌝ }
 {
     let five = [a.number as usize, a.place, a.tokens, a.taken, a.events];
     tell(lent, &five);
@@ -51,10 +47,7 @@ pub extern "C" fn gigboda_property_section(
     events: &mut [u32],
     answer: &mut [usize],
 )
-    ensures answered { λ r. ⌜ now (answer .exit) ≡ told (section-answer base (now (src .entry)) (length (now (tokens .entry))) (length (now (events .entry)))) (now (answer .entry)) ⌝ }
-    ensures token_words { λ r. ⌜ now (tokens .exit) ≡ left-in (section-answer base (now (src .entry)) (length (now (tokens .entry))) (length (now (events .entry)))) (token-words (now (src .entry))) (now (tokens .entry)) ⌝ }
-    ensures event_words { λ r. ⌜ now (events .exit) ≡ left-in (section-answer base (now (src .entry)) (length (now (tokens .entry))) (length (now (events .entry)))) (event-words base (now (src .entry))) (now (events .entry)) ⌝ }
-    ensures derived { λ r. ⌜ (section-answer base (now (src .entry)) (length (now (tokens .entry))) (length (now (events .entry))) .number ≡ 0 → Read-as-derived (now (src .entry)) (section-answer base (now (src .entry)) (length (now (tokens .entry))) (length (now (events .entry)))) (now (events .exit))) ⌝ }
+    ensures { λ r. ⌜ Exported numbers (λ a. Section-called base (now (src .entry)) (now (tokens .entry)) (now (events .entry)) a (now (tokens .exit)) (now (events .exit))) (now (answer .entry)) (now (answer .exit)) ⌝ }
 {
     let a = section::property_section(src, tokens, events);
     tell_answer(answer, a);
@@ -69,12 +62,7 @@ pub extern "C" fn gigboda_property_tree(
     records: &mut [u32],
     answer: &mut [usize],
 )
-    ensures answered { λ r. ⌜ now (answer .exit) ≡ tree-told (tree-answer base (now (src .entry)) (length (now (tokens .entry))) (length (now (events .entry))) (length (now (records .entry)))) (now (answer .entry)) ⌝ }
-    ensures token_words { λ r. ⌜ now (tokens .exit) ≡ left-in (tree-answer base (now (src .entry)) (length (now (tokens .entry))) (length (now (events .entry))) (length (now (records .entry))) .answer) (token-words (now (src .entry))) (now (tokens .entry)) ⌝ }
-    ensures event_words { λ r. ⌜ now (events .exit) ≡ left-in (tree-answer base (now (src .entry)) (length (now (tokens .entry))) (length (now (events .entry))) (length (now (records .entry))) .answer) (event-words base (now (src .entry))) (now (events .entry)) ⌝ }
-    ensures record_words { λ r. ⌜ now (records .exit) ≡ left-in (tree-answer base (now (src .entry)) (length (now (tokens .entry))) (length (now (events .entry))) (length (now (records .entry))) .answer) (record-words base (now (src .entry))) (now (records .entry)) ⌝ }
-    ensures derived { λ r. ⌜ (tree-answer base (now (src .entry)) (length (now (tokens .entry))) (length (now (events .entry))) (length (now (records .entry))) .answer .number ≡ 0 → Read-as-derived (now (src .entry)) (tree-answer base (now (src .entry)) (length (now (tokens .entry))) (length (now (events .entry))) (length (now (records .entry))) .answer) (now (events .exit))) ⌝ }
-    ensures recorded { λ r. ⌜ (tree-answer base (now (src .entry)) (length (now (tokens .entry))) (length (now (events .entry))) (length (now (records .entry))) .answer .number ≡ 0 → Recorded (now (src .entry)) (tree-answer base (now (src .entry)) (length (now (tokens .entry))) (length (now (events .entry))) (length (now (records .entry)))) (now (events .exit)) (now (records .exit))) ⌝ }
+    ensures { λ r. ⌜ Exported six-in-a-row (λ a. Tree-called base (now (src .entry)) (now (tokens .entry)) (now (events .entry)) (now (records .entry)) a (now (tokens .exit)) (now (events .exit)) (now (records .exit))) (now (answer .entry)) (now (answer .exit)) ⌝ }
 {
     let a = tree::property_tree(src, tokens, events, records);
     let five = a.answer;
@@ -98,12 +86,7 @@ pub extern "C" fn gigboda_association_value(
     number: usize,
     answer: &mut [usize],
 ) -> i64
-    ensures returned { λ r. ⌜ r ≡ value-answer base (now (src .entry)) (length (now (tokens .entry))) (length (now (events .entry))) number .value ⌝ }
-    ensures answered { λ r. ⌜ now (answer .exit) ≡ told (value-answer base (now (src .entry)) (length (now (tokens .entry))) (length (now (events .entry))) number .answer) (now (answer .entry)) ⌝ }
-    ensures token_words { λ r. ⌜ now (tokens .exit) ≡ left-in (value-answer base (now (src .entry)) (length (now (tokens .entry))) (length (now (events .entry))) number .answer) (token-words (now (src .entry))) (now (tokens .entry)) ⌝ }
-    ensures event_words { λ r. ⌜ now (events .exit) ≡ left-in (value-answer base (now (src .entry)) (length (now (tokens .entry))) (length (now (events .entry))) number .answer) (event-words base (now (src .entry))) (now (events .entry)) ⌝ }
-    ensures derived { λ r. ⌜ (value-answer base (now (src .entry)) (length (now (tokens .entry))) (length (now (events .entry))) number .answer .number ≡ 0 → Read-as-derived (now (src .entry)) (value-answer base (now (src .entry)) (length (now (tokens .entry))) (length (now (events .entry))) number .answer) (now (events .exit))) ⌝ }
-    ensures valued { λ r. ⌜ (value-answer base (now (src .entry)) (length (now (tokens .entry))) (length (now (events .entry))) number .answer .number ≡ 0 → Valued (now (src .entry)) number (value-answer base (now (src .entry)) (length (now (tokens .entry))) (length (now (events .entry))) number)) ⌝ }
+    ensures { λ r. ⌜ Exported (λ a. numbers (a .answer)) (λ a. (r ≡ a .value) × Value-called base (now (src .entry)) (now (tokens .entry)) (now (events .entry)) number a (now (tokens .exit)) (now (events .exit))) (now (answer .entry)) (now (answer .exit)) ⌝ }
 {
     let a = evaluation::association_value(src, tokens, events, number);
     let value = a.value;
@@ -114,9 +97,7 @@ pub extern "C" fn gigboda_association_value(
 // The tokens-only call: tokens into lent words, the answer's numbers into lent numbers.
 #[no_mangle]
 pub extern "C" fn gigboda_tokenize(src: &[u8], tokens: &mut [u32], answer: &mut [usize])
-    ensures answered { λ r. ⌜ now (answer .exit) ≡ told (tokens-answer base (now (src .entry)) (length (now (tokens .entry)))) (now (answer .entry)) ⌝ }
-    ensures token_words { λ r. ⌜ now (tokens .exit) ≡ left-in (tokens-answer base (now (src .entry)) (length (now (tokens .entry)))) (token-words (now (src .entry))) (now (tokens .entry)) ⌝ }
-    ensures words_told { λ r. ⌜ (tokens-answer base (now (src .entry)) (length (now (tokens .entry))) .number ≡ 0 → Words-told (now (src .entry)) (tokens-answer base (now (src .entry)) (length (now (tokens .entry))) .tokens) (now (tokens .exit))) ⌝ }
+    ensures { λ r. ⌜ Exported numbers (λ a. Tokens-called base (now (src .entry)) (now (tokens .entry)) a (now (tokens .exit))) (now (answer .entry)) (now (answer .exit)) ⌝ }
 {
     let a = lexer::tokenize(src, tokens);
     tell_answer(answer, a);

@@ -28,7 +28,7 @@ use Rattle.aadl.proofs.Lists.{Each}
 use Rattle.aadl.proofs.Literal.{read-is-literal}
 use Rattle.aadl.proofs.Demand3.{clean-exactly, spelled-derivation, derived-events, from-symbols}
 use Rattle.aadl.proofs.NeverClean.{no-stop}
-use Rattle.aadl.proofs.ValueAnswers.{clean-by-test}
+use Rattle.aadl.proofs.ValueCalls.{clean-by-test}
 use Rattle.constants.proofs.Parts.{the-token}
 use Rattle.constants.proofs.Trees.{found-tree}
 use Rattle.constants.proofs.FirstValues.{Right, section-right}

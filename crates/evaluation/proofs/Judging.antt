@@ -26,7 +26,7 @@ use Rattle.aadl.proofs.RawNumbers.{raw-number-counted}
 use Rattle.aadl.proofs.EventPairs.{length-words-of, first-words-of}
 use Rattle.aadl.proofs.EventWords.{words-tell-events}
 use Rattle.aadl.proofs.EventTokens.{token-named-is}
-use Rattle.aadl.proofs.ValueAnswers.{lacks-it, refused-lacking, refused-no-constant, refused-beyond, value-passed}
+use Rattle.aadl.proofs.ValueCalls.{lacks-it, refused-lacking, refused-no-constant, refused-beyond, value-passed}
 use Rattle.wholes.specs.Integers.{integer}
 use Rattle.section.proofs.CleanLaws.{solid-kinds}
 use Rattle.counting.specs.Bands.{tally, nth-within}
@@ -162,8 +162,8 @@ module _ {limits : Limits} {text toks ws : List ℕ} {count : ℕ} (x : Was-read
     its = nth-association k found
 
     -- Refusal 9 at the text's length, whatever words were lent.
-    lacking : (v : Verdict) → v .number ≡ 9 → v .place ≡ length text → lacks-it limits text 0 0 k ≡ true → Judged limits text k v
-    lacking v e f h = record { decides = λ m n z. refused-lacking limits text m n k z h ∙ sym (refuses v 8 (length text) e f _) }
+    lacking : (v : Verdict) → v .number ≡ 9 → v .place ≡ length text → lacks-it limits text k ≡ true → Judged limits text k v
+    lacking v e f h = record { decides = λ a. refused-lacking limits text k a h ∙ sym (refuses v 8 (length text) e f _) }
 
     pub judged-unclean : (v : Verdict) → v .number ≡ 9 → v .place ≡ length text → reads-cleanly limits (symbols text) ≡ false → Judged limits text k v
     judged-unclean v e f c = lacking v e f (or-true-l (not (reads-cleanly limits (symbols text))) _ (ap not c))
@@ -222,7 +222,7 @@ module _ {limits : Limits} {text toks ws : List ℕ} {count : ℕ} (x : Was-read
             ∙ token-named-is (raw-number text) 0 es [] start started
             ∙ ap (raw-number text) (omega (arith, first-is))
 
-        nothing-lacks : lacks-it limits text 0 0 k ≡ false
+        nothing-lacks : lacks-it limits text k ≡ false
         nothing-lacks = or-neither (not (reads-cleanly limits (symbols text))) _ (ap not c) (lt-leb (length found) k there)
 
         -- What the pass gives from there is the outcome of its constant.
@@ -237,7 +237,7 @@ module _ {limits : Limits} {text toks ws : List ℕ} {count : ℕ} (x : Was-read
           judged-no-constant v n q o =
               let none-there = no-constant (its .constant) (right ∙ no-value text p o) in
               record {
-                decides = λ m r z. refused-no-constant limits text m r k z nothing-lacks none-there ∙ sym (refuses v 8 (start-of text (its .first)) n q _);
+                decides = λ a. refused-no-constant limits text k a nothing-lacks none-there ∙ sym (refuses v 8 (start-of text (its .first)) n q _);
               }
 
           module _ (o : t .constant ≡ true) where
@@ -251,8 +251,8 @@ module _ {limits : Limits} {text toks ws : List ℕ} {count : ℕ} (x : Was-read
             judged-beyond v n q b =
                 let y = far text (read .held) b in
                 record {
-                  decides = λ m r z.
-                      refused-beyond limits text m r k z nothing-lacks (comes .constant) (comes .it-is) (y .token) (comes .comes ∙ y .it-is)
+                  decides = λ a.
+                      refused-beyond limits text k a nothing-lacks (comes .constant) (comes .it-is) (y .token) (comes .comes ∙ y .it-is)
                       ∙ sym (refuses v 9 (start-of text (y .token)) n (q ∙ y .place) _);
                 }
 
@@ -260,7 +260,7 @@ module _ {limits : Limits} {text toks ws : List ℕ} {count : ℕ} (x : Was-read
             judged-valued v n q b =
                 let y = near text (read .held) b in
                 record {
-                  decides = λ m r z.
-                      value-passed limits text m r k z nothing-lacks (comes .constant) (comes .it-is) (v .value) (comes .comes ∙ y .it-is ∙ ap exact (sym q))
+                  decides = λ a.
+                      value-passed limits text k a nothing-lacks (comes .constant) (comes .it-is) (v .value) (comes .comes ∙ y .it-is ∙ ap exact (sym q))
                       ∙ sym (values v n _);
                 }

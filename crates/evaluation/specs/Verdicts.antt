@@ -12,8 +12,8 @@ use Rattle.aadl.specs.declared.Limits.{Limits}
 use Rattle.aadl.specs.Limits.{most-events}
 use Rattle.aadl.specs.Symbols.{symbols}
 use Rattle.aadl.specs.Reading.{events, too-deep}
-use Rattle.aadl.specs.Answers.{section-answer, token-words, event-words}
-use Rattle.aadl.specs.Values.{with-value, value-refused, value-answer}
+use Rattle.aadl.specs.Answers.{checked, token-words, event-words}
+use Rattle.aadl.specs.Values.{value-checks, with-value, value-refused, valuing}
 use Rattle.evaluation.specs.declared.Verdict.{Verdict}
 
 -- A text that was read: the token words and the event words are its own, and so many tokens are taken.
@@ -29,6 +29,6 @@ pub record Was-read (limits : Limits) (text toks ws : List ℕ) (count : ℕ) : 
 unfoldable pub judged : Answer → Verdict → ValueAnswer
 judged a v = cond (eqb (v .number) 0) (with-value a (v .value)) (value-refused (v .number) (v .place))
 
--- A verdict that is right: where the section call refuses nothing, whatever words were lent, the value call's answer is by it.
+-- A verdict that is right: where the section call answered a and refused nothing, the value call's own checks give the answer by it.
 pub record Judged (limits : Limits) (text : List ℕ) (number : ℕ) (v : Verdict) : Type 0 where
-  pub decides : (m n : ℕ) → section-answer limits text m n .number ≡ 0 → value-answer limits text m n number ≡ judged (section-answer limits text m n) v
+  pub decides : (a : Answer) → checked value-refused (value-checks limits text number) (valuing limits text number .added a) ≡ judged a v

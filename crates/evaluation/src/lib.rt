@@ -29,9 +29,8 @@ ghost use lib.ListN.{length};
 ghost use lib.Dec.{eqb};
 ghost use Rattle.aadl.specs.Limits.{base, Allowed};
 ghost use Rattle.aadl.specs.Symbols.{raw-number};
-ghost use Rattle.aadl.specs.Answers.{token-words, event-words, left-in};
-ghost use Rattle.aadl.specs.Demand.{Read-as-derived};
-ghost use Rattle.aadl.specs.Values.{value-answer, Valued};
+ghost use Rattle.aadl.specs.Answers.{token-words};
+ghost use Rattle.aadl.specs.Contracts.{Value-called};
 ghost use Rattle.section.specs.Standing.{Passed};
 ghost use Rattle.counting.specs.Bands.{tally};
 ghost use Rattle.evaluation.specs.Words as W;
@@ -164,11 +163,7 @@ pub fn association_value_within(
     limits: Limits,
 ) -> ValueAnswer
     requires { ⌜ Allowed limits ⌝ }
-    ensures answered { λ r. ⌜ r ≡ value-answer limits (now (src .entry)) (length (now (tokens .entry))) (length (now (events .entry))) number ⌝ }
-    ensures token_words { λ r. ⌜ now (tokens .exit) ≡ left-in (r .answer) (token-words (now (src .entry))) (now (tokens .entry)) ⌝ }
-    ensures event_words { λ r. ⌜ now (events .exit) ≡ left-in (r .answer) (event-words limits (now (src .entry))) (now (events .entry)) ⌝ }
-    ensures derived { λ r. ⌜ (r .answer .number ≡ 0 → Read-as-derived (now (src .entry)) (r .answer) (now (events .exit))) ⌝ }
-    ensures valued { λ r. ⌜ (r .answer .number ≡ 0 → Valued (now (src .entry)) number r) ⌝ }
+    ensures { λ r. ⌜ Value-called limits (now (src .entry)) (now (tokens .entry)) (now (events .entry)) number r (now (tokens .exit)) (now (events .exit)) ⌝ }
 {
     let a = property_section_within(src, tokens, events, limits);
     if a.number != 0 {
@@ -205,11 +200,7 @@ pub fn association_value(
     events: &mut [u32],
     number: usize,
 ) -> ValueAnswer
-    ensures answered { λ r. ⌜ r ≡ value-answer base (now (src .entry)) (length (now (tokens .entry))) (length (now (events .entry))) number ⌝ }
-    ensures token_words { λ r. ⌜ now (tokens .exit) ≡ left-in (r .answer) (token-words (now (src .entry))) (now (tokens .entry)) ⌝ }
-    ensures event_words { λ r. ⌜ now (events .exit) ≡ left-in (r .answer) (event-words base (now (src .entry))) (now (events .entry)) ⌝ }
-    ensures derived { λ r. ⌜ (r .answer .number ≡ 0 → Read-as-derived (now (src .entry)) (r .answer) (now (events .exit))) ⌝ }
-    ensures valued { λ r. ⌜ (r .answer .number ≡ 0 → Valued (now (src .entry)) number r) ⌝ }
+    ensures { λ r. ⌜ Value-called base (now (src .entry)) (now (tokens .entry)) (now (events .entry)) number r (now (tokens .exit)) (now (events .exit)) ⌝ }
 {
     association_value_within(src, tokens, events, number, BASE)
 }

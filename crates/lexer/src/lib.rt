@@ -28,8 +28,8 @@ ghost use Rattle.aadl.specs.Limits.{base, Allowed};
 ghost use Rattle.aadl.specs.Utf8.{ill-formed};
 ghost use Rattle.aadl.specs.Tokens.{tokens, unclosed, total, from-token, token-text};
 ghost use Rattle.aadl.specs.NumberParts.{number-parts, bit, part-numbers, Parts-hold};
-ghost use Rattle.aadl.specs.WordKinds.{Words-told};
-ghost use Rattle.aadl.specs.Answers.{refused, tokens-answer, token-words, left-in};
+ghost use Rattle.aadl.specs.Answers.{refused, token-words};
+ghost use Rattle.aadl.specs.Contracts.{Tokens-called};
 ghost use Rattle.lexer.specs.Filling.{write, filled-of};
 
 // How far tokens went into words: whether one is left without a word, where it starts or the text ends, how many words are written.
@@ -263,9 +263,7 @@ pub fn refuse(tokens: &mut [u32], number: u32, place: usize) -> Answer
 // The tokens-only call within limits: the tokens of a text into lent words, or one of the refusals 1 to 3 and 8 with all words zeroed.
 pub fn tokenize_within(src: &[u8], tokens: &mut [u32], limits: Limits) -> Answer
     requires { ⌜ Allowed limits ⌝ }
-    ensures answered { λ r. ⌜ r ≡ tokens-answer limits (now (src .entry)) (length (now (tokens .entry))) ⌝ }
-    ensures token_words { λ r. ⌜ now (tokens .exit) ≡ left-in r (token-words (now (src .entry))) (now (tokens .entry)) ⌝ }
-    ensures words_told { λ r. ⌜ (r .number ≡ 0 → Words-told (now (src .entry)) (r .tokens) (now (tokens .exit))) ⌝ }
+    ensures { λ r. ⌜ Tokens-called limits (now (src .entry)) (now (tokens .entry)) r (now (tokens .exit)) ⌝ }
 {
     if limits.bytes < src.len() {
         return refuse(tokens, 1, limits.bytes);
@@ -295,9 +293,7 @@ pub fn tokenize_within(src: &[u8], tokens: &mut [u32], limits: Limits) -> Answer
 
 // The tokens-only call: the tokens of a text into lent words, or one of the refusals 1 to 3 and 8 with all words zeroed.
 pub fn tokenize(src: &[u8], tokens: &mut [u32]) -> Answer
-    ensures answered { λ r. ⌜ r ≡ tokens-answer base (now (src .entry)) (length (now (tokens .entry))) ⌝ }
-    ensures token_words { λ r. ⌜ now (tokens .exit) ≡ left-in r (token-words (now (src .entry))) (now (tokens .entry)) ⌝ }
-    ensures words_told { λ r. ⌜ (r .number ≡ 0 → Words-told (now (src .entry)) (r .tokens) (now (tokens .exit))) ⌝ }
+    ensures { λ r. ⌜ Tokens-called base (now (src .entry)) (now (tokens .entry)) r (now (tokens .exit)) ⌝ }
 {
     tokenize_within(src, tokens, BASE)
 }

@@ -16,11 +16,13 @@ use Rattle.aadl.specs.Limits.{Allowed}
 use Rattle.aadl.specs.Answers.{section-checks, all-answered, refused, section-answer}
 use Rattle.aadl.specs.Encoding.{room, words-for, first-words}
 use Rattle.aadl.specs.Listing.{lent-tokens, lent-events, listing-answer, listing}
-use Rattle.aadl.proofs.Lists.{Each}
+use Rattle.aadl.specs.Calls.{Each, tokens-call, section-call, Answered-whole, Refused-first}
+use Rattle.aadl.specs.Contracts.{Section-called}
 use Rattle.aadl.proofs.AnswerLaws.{too-long}
-use Rattle.aadl.proofs.Settled.{five-numbers, Answered-whole, Refused-first}
+use Rattle.aadl.proofs.CallsRead.{section-answered}
 use Rattle.parser.specs.Input.{Input, input}
-use Rattle.section.proofs.Demands.{Called, checks, buffers, counted-tokens, counted-events, every-answer-is-settled}
+use Rattle.section.proofs.Unrefused.{token-words-counted, event-words-counted}
+use Rattle.section.proofs.Demands.{every-answer-is-settled}
 use Rattle.listing.specs.declared.Listing.{Listing}
 use Rattle.listing.specs.declared.Position.{Position}
 use Rattle.lines.specs.Lines.{line-room, refusal-line, first-line}
@@ -36,20 +38,22 @@ use Rattle.listing.proofs.PieceLaws.{piece-more, pieces, pieces-are-all
 abbrev pub answer-lines : (text ts es : List ℕ) → Answer → Position → List (List ℕ)
 answer-lines text ts es a k = first-line a ∷ lines-from (input text (take (a .tokens) ts)) 0 (first-words (take (words-for (a .events)) es)) k
 
-module _ {limits : Limits} {text old last : List ℕ} {a : Answer} {ts es : List ℕ} (c : Called limits text old last a ts es) (h : Allowed limits) (m : length old ≡ lent-tokens) (n : length last ≡ lent-events) where
+module _ {limits : Limits} {text old last : List ℕ} {a : Answer} {ts es : List ℕ} (c : Section-called limits text old last a ts es) (h : Allowed limits) (m : length old ≡ lent-tokens) (n : length last ≡ lent-events) where
   answer-is : a ≡ listing-answer limits text
-  answer-is = c .answer ∙ (λ i. section-answer limits text (m i) (n i))
+  answer-is = section-answered c ∙ (λ i. section-answer limits text (m i) (n i))
 
-  read-listed : (k : Position) → k ≡ begin (input text (take (a .tokens) ts)) → Answered-whole five-numbers (checks limits text old last) (all-answered limits text) a (buffers limits text old last ts es) → joined (answer-lines text ts es a k) ≡ listing limits text
+  read-listed : (k : Position) → k ≡ begin (input text (take (a .tokens) ts)) → Answered-whole (section-call limits text old last) a (ts ∷ es ∷ []) → joined (answer-lines text ts es a k) ≡ listing limits text
+  unfolding section-call tokens-call
   read-listed k e x =
-      let f = first-is-header a (ap (λ (r : Answer). r .number) (x .counts)) in
-      let t = counted-tokens c x in
-      let w = counted-events c x in
+      let z : a .number ≡ 0 = ap (λ (r : Answer). r .number) (x .counts) in
+      let f = first-is-header a z in
+      let t = token-words-counted c z in
+      let w = event-words-counted c z in
       let b = e ∙ ap (λ (l : List ℕ). begin (input text l)) t in
       (λ i. f i ++ joined (lines-from (input text (t i)) 0 (first-words (w i)) (b i)))
-      ∙ listing-of-answer limits text h (ap (λ (r : Answer). r .number) (sym answer-is ∙ x .counts))
+      ∙ listing-of-answer limits text h (ap (λ (r : Answer). r .number) (sym answer-is) ∙ z)
 
-  refused-listed : (k : Position) → Refused-first five-numbers (checks limits text old last) a (buffers limits text old last ts es) → joined (answer-lines text ts es a k) ≡ listing limits text
+  refused-listed : (k : Position) → Refused-first (section-call limits text old last) a (ts ∷ es ∷ []) → joined (answer-lines text ts es a k) ≡ listing limits text
   unfolding lines-from first-words
   refused-listed k x =
       let z : a .number ≡ 0 → ⊥ = λ e. x .not-zero (sym (ap (λ (r : Answer). r .number) (x .no-counts)) ∙ e) in

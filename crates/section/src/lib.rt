@@ -22,8 +22,9 @@ ghost use lib.ListN.{length, take};
 ghost use Rattle.predictive.specs.Events.{erring, any-fault};
 ghost use Rattle.aadl.specs.Limits.{base, Allowed};
 ghost use Rattle.aadl.specs.Encoding.{events-in};
-ghost use Rattle.aadl.specs.Answers.{section-answer, token-words, event-words, left-in};
-ghost use Rattle.aadl.specs.Demand.{solid-words, is-clean, Read-as-derived};
+ghost use Rattle.aadl.specs.Answers.{token-words};
+ghost use Rattle.aadl.specs.Demand.{solid-words, is-clean};
+ghost use Rattle.aadl.specs.Contracts.{Section-called};
 ghost use Rattle.section.specs.Replies.{Sectioned};
 
 // The section of a text whose token words are lent: the Rust panics where `properties` does not stand, here the parser stops with 4.
@@ -47,10 +48,7 @@ pub fn property_section_within(
     limits: Limits,
 ) -> Answer
     requires { ⌜ Allowed limits ⌝ }
-    ensures answered { λ r. ⌜ r ≡ section-answer limits (now (src .entry)) (length (now (tokens .entry))) (length (now (events .entry))) ⌝ }
-    ensures token_words { λ r. ⌜ now (tokens .exit) ≡ left-in (section-answer limits (now (src .entry)) (length (now (tokens .entry))) (length (now (events .entry)))) (token-words (now (src .entry))) (now (tokens .entry)) ⌝ }
-    ensures event_words { λ r. ⌜ now (events .exit) ≡ left-in (section-answer limits (now (src .entry)) (length (now (tokens .entry))) (length (now (events .entry)))) (event-words limits (now (src .entry))) (now (events .entry)) ⌝ }
-    ensures derived { λ r. ⌜ (r .number ≡ 0 → Read-as-derived (now (src .entry)) r (now (events .exit))) ⌝ }
+    ensures { λ r. ⌜ Section-called limits (now (src .entry)) (now (tokens .entry)) (now (events .entry)) r (now (tokens .exit)) (now (events .exit)) ⌝ }
 {
     let a = tokenize_within(src, tokens, limits);
     if a.number != 0 {
@@ -74,10 +72,7 @@ pub fn property_section_within(
 // The section call: the tokens of a text and the events of its section into lent words, or one of the refusals 1 to 6 and 8 with all
 // words zeroed.
 pub fn property_section(src: &[u8], tokens: &mut [u32], events: &mut [u32]) -> Answer
-    ensures answered { λ r. ⌜ r ≡ section-answer base (now (src .entry)) (length (now (tokens .entry))) (length (now (events .entry))) ⌝ }
-    ensures token_words { λ r. ⌜ now (tokens .exit) ≡ left-in (section-answer base (now (src .entry)) (length (now (tokens .entry))) (length (now (events .entry)))) (token-words (now (src .entry))) (now (tokens .entry)) ⌝ }
-    ensures event_words { λ r. ⌜ now (events .exit) ≡ left-in (section-answer base (now (src .entry)) (length (now (tokens .entry))) (length (now (events .entry)))) (event-words base (now (src .entry))) (now (events .entry)) ⌝ }
-    ensures derived { λ r. ⌜ (r .number ≡ 0 → Read-as-derived (now (src .entry)) r (now (events .exit))) ⌝ }
+    ensures { λ r. ⌜ Section-called base (now (src .entry)) (now (tokens .entry)) (now (events .entry)) r (now (tokens .exit)) (now (events .exit)) ⌝ }
 {
     property_section_within(src, tokens, events, BASE)
 }

@@ -1,12 +1,12 @@
--- The tree call, way by way: the section call refused; a node has no record; every node has one. Each gives the answer and every word of
--- the three lent buffers. The words of a text's events are walked as its events are, which are one root's, so that the walk's records are
+-- The tree call, way by way: the section call refused; a node has no record; every node has one. Each keeps the
+-- call's promise (aadl's Extending). The words of a text's events are walked as its events are, which are one root's, so that the walk's records are
 -- the text's. Assumes nothing.
 use Prim.Native.Nat.{ℕ, _≤_, _<_}
 use native.Mathlib.Omega.{arith}
 use mathlib.Core.Path.{_≡_, refl, sym, ap, _∙_}
-use mathlib.Core.List.{List, _∷_, map}
+use mathlib.Core.List.{List, [], _∷_, map}
 use lib.ListN.{length, getD, take, replicate}
-use borrow.Author.Tests.{eq-eqb}
+use borrow.Author.Tests.{lt-ltb, le-ltb}
 use Rattle.predictive.specs.Events.{Event, start}
 use Rattle.predictive.specs.Events as E
 use Rattle.aadl.specs.declared.Answer.{Answer}
@@ -18,18 +18,20 @@ use Rattle.aadl.specs.Tokens.{kind-in}
 use Rattle.aadl.specs.Symbols.{symbols, raw-number, start-of}
 use Rattle.aadl.specs.Encoding.{event-word, event-in, words-for, first-words}
 use Rattle.aadl.specs.Reading.{events}
-use Rattle.aadl.specs.Answers.{section-answer, left-in, token-words, event-words}
-use Rattle.aadl.specs.Records.{Record, record-room, text-records, record-words, with-records, tree-refused}
+use Rattle.aadl.specs.Answers.{event-words}
+use Rattle.aadl.specs.Calls.{tokens-call, section-call}
+use Rattle.aadl.specs.Records.{Record, record-room, text-records, with-records, tree-refused, recording, tree-call}
+use Rattle.aadl.specs.Contracts.{Section-called, Tree-called}
 use Rattle.aadl.proofs.EventPairs.{length-first-words, first-words-of}
-use Rattle.aadl.proofs.AnswerLaws.{left-by-refusal}
-use Rattle.aadl.proofs.TreeAnswers.{rooted, rooted-records, tree-refused-first, tree-passed, tree-full}
-use Rattle.section.proofs.Demands.{Called, every-answer-is-the-reading}
+use Rattle.aadl.proofs.Root.{rooted, rooted-records}
+use Rattle.aadl.proofs.Extending.{did-same, on-refused, own-refuses, none-refuses}
+use Rattle.aadl.proofs.CallsRead.{section-sound}
+use Rattle.aadl.proofs.TreeCalls.{tree-promised}
 use Rattle.section.proofs.Unrefused.{all-passed, event-words-counted, event-words-long, events-told}
 use Rattle.tree.specs.declared.Builder.{Builder}
 use Rattle.tree.specs.Walk.{walk, root}
 use Rattle.tree.specs.Builders.{laid, walked, Built}
 use Rattle.tree.proofs.Walking.{walk-records}
-use Rattle.tree.proofs.Demands.{Called-tree}
 
 -- A TEXT'S EVENTS ------------------------------------------------------------------------------------------------------
 
@@ -58,29 +60,18 @@ walk-of-text limits text ws told kind =
 
 -- WAY BY WAY -----------------------------------------------------------------------------------------------------------
 
+zeros : {m n : ℕ} → m ≡ n → _≡_ {A = List ℕ} (replicate m 0) (replicate n 0)
+zeros e = ap (λ (k : ℕ). replicate {A = ℕ} k 0) e
+
 -- a is what the section call answered, ts and es the token and event words that it left
-module _ {limits : Limits} {text old last : List ℕ} {a : Answer} {ts es : List ℕ} (c : Called limits text old last a ts es) where
-  tokens-left : ts ≡ left-in a (token-words text) old
-  tokens-left = every-answer-is-the-reading c .1 .0
-
-  events-left : es ≡ left-in a (event-words limits text) last
-  events-left = every-answer-is-the-reading c .1 .1
-
+module _ {limits : Limits} {text old last : List ℕ} {a : Answer} {ts es : List ℕ} (c : Section-called limits text old last a ts es) where
   -- What it refuses the tree call refuses likewise.
   pub called-refused : (r : TreeAnswer) (rows rs : List ℕ) → (a .number ≡ 0 → ⊥) → r ≡ with-records a 0 → rs ≡ replicate (length rows) 0 →
-      Called-tree limits text old last rows r ts es rs
+      Tree-called limits text old last rows r ts es rs
+  unfolding tree-call
   called-refused r rows rs f g w =
-      let e = c .answer in
-      let own : r .answer ≡ a = ap (λ (x : TreeAnswer). x .answer) g in
-      record {
-        answer =
-            g
-            ∙ ap (λ (x : Answer). with-records x 0) e
-            ∙ sym (tree-refused-first limits text (length old) (length last) (length rows) (λ h. f (ap (λ (x : Answer). x .number) e ∙ h)));
-        token-words-left = tokens-left ∙ ap (λ (x : Answer). left-in x (token-words text) old) (sym own);
-        event-words-left = events-left ∙ ap (λ (x : Answer). left-in x (event-words limits text) last) (sym own);
-        record-words-left = w ∙ sym (left-by-refusal (r .answer) (record-words limits text) rows (λ h. f (ap (λ (x : Answer). x .number) (sym own) ∙ h)));
-      }
+      tree-promised limits text old last rows
+      (did-same (on-refused (section-sound limits text old last) (recording limits text rows) (c .did) f) g (λ i. ts ∷ es ∷ w i ∷ []))
 
   module _ (z : a .number ≡ 0) where
     -- the first words of the events that it counts
@@ -106,37 +97,28 @@ module _ {limits : Limits} {text old last : List ℕ} {a : Answer} {ts es : List
       same-room : record-room (length rs) ≡ record-room (length rows)
       same-room = ap record-room (x .long)
 
-      -- the section call's answer, by its definition
-      passed : section-answer limits text (length old) (length last) .number ≡ 0
-      passed = sym (ap (λ (r : Answer). r .number) (c .answer)) ∙ z
-
       pub called-full : (r : TreeAnswer) (place : ℕ) (us fs qs : List ℕ) → record-room (length rs) < b .records → place ≡ start-of text (b .taken) → r ≡ tree-refused 7 place →
           length ts ≡ length old → length es ≡ length last →
-          us ≡ replicate (length ts) 0 → fs ≡ replicate (length es) 0 → qs ≡ replicate (length rs) 0 → Called-tree limits text old last rows r us fs qs
+          us ≡ replicate (length ts) 0 → fs ≡ replicate (length es) 0 → qs ≡ replicate (length rs) 0 → Tree-called limits text old last rows r us fs qs
+      unfolding tree-call section-call tokens-call
       called-full r place us fs qs f p g lt le wt we wr =
           let lacking : record-room (length rows) < b .records = omega (arith, f, same-room) in
           let behind : record-room (length rows) < length all = omega (arith, x .lacks lacking, ap length built-rows) in
           let first = x .names lacking ∙ ap (λ (l : List Record). getD (map (λ (q : Record). q .first) l) (record-room (length rows)) 0) built-rows in
-          let n : r .answer .number ≡ 0 → ⊥ = λ h. omega (arith, ap (λ (q : TreeAnswer). q .answer .number) g, h) in
-          record {
-            answer =
-                g ∙ ap (tree-refused 7) (p ∙ ap (start-of text) first)
-                ∙ sym (tree-full limits text (length old) (length last) (length rows) passed behind);
-            token-words-left = wt ∙ ap (λ (k : ℕ). replicate k 0) lt ∙ sym (left-by-refusal (r .answer) (token-words text) old n);
-            event-words-left = we ∙ ap (λ (k : ℕ). replicate k 0) le ∙ sym (left-by-refusal (r .answer) (event-words limits text) last n);
-            record-words-left = wr ∙ ap (λ (k : ℕ). replicate k 0) (x .long) ∙ sym (left-by-refusal (r .answer) (record-words limits text) rows n);
-          }
+          tree-promised limits text old last rows
+          (did-same
+          (own-refuses (section-sound limits text old last) (recording limits text rows) (c .did) z
+          (tree-refused 7 (start-of text (getD (map (λ (q : Record). q .first) all) (record-room (length rows)) 0)))
+          (rw (lt-ltb (record-room (length rows)) (length all) behind) refl) (λ h. omega (arith, h)))
+          (g ∙ ap (tree-refused 7) (p ∙ ap (start-of text) first)) (λ i. (wt ∙ zeros lt) i ∷ (we ∙ zeros le) i ∷ (wr ∙ zeros (x .long)) i ∷ []))
 
-      pub called-built : b .records ≤ record-room (length rs) → Called-tree limits text old last rows (with-records a (b .records)) ts es rs
-      unfolding left-in
+      pub called-built : b .records ≤ record-room (length rs) → Tree-called limits text old last rows (with-records a (b .records)) ts es rs
+      unfolding tree-call
       called-built f =
           let enough : b .records ≤ record-room (length rows) = omega (arith, f, same-room) in
           let few : length all ≤ record-room (length rows) = omega (arith, enough, x .counts enough, ap length built-rows) in
-          record {
-            answer =
-                (λ i. with-records (c .answer i) ((x .counts enough ∙ ap length built-rows) i))
-                ∙ sym (tree-passed limits text (length old) (length last) (length rows) passed few);
-            token-words-left = tokens-left;
-            event-words-left = events-left;
-            record-words-left = x .lays enough ∙ ap (λ (l : List Record). laid l rows) built-rows ∙ rw (eq-eqb (a .number) 0 z) refl;
-          }
+          tree-promised limits text old last rows
+          (did-same
+          (none-refuses (section-sound limits text old last) (recording limits text rows) (c .did) z (with-records a (length all))
+          (rw (le-ltb (record-room (length rows)) (length all) few) refl) z)
+          (ap (with-records a) (x .counts enough ∙ ap length built-rows)) (λ i. ts ∷ es ∷ (x .lays enough ∙ ap (λ (l : List Record). laid l rows) built-rows) i ∷ []))

@@ -23,9 +23,9 @@ ghost use lib.Seq.{sets};
 ghost use Rattle.aadl.specs.Limits.{base, Allowed, most-events};
 ghost use Rattle.aadl.specs.Symbols.{start-of};
 ghost use Rattle.aadl.specs.Encoding.{first-words, told-by};
-ghost use Rattle.aadl.specs.Answers.{token-words, event-words, left-in};
-ghost use Rattle.aadl.specs.Demand.{Read-as-derived};
-ghost use Rattle.aadl.specs.Records.{of-node, words-of-records, record-words, with-records, tree-answer, Recorded};
+ghost use Rattle.aadl.specs.Answers.{token-words};
+ghost use Rattle.aadl.specs.Records.{of-node, words-of-records, with-records};
+ghost use Rattle.aadl.specs.Contracts.{Tree-called};
 ghost use Rattle.tree.specs.Walk.{links, opened, Walk, begun, closed, turn};
 ghost use Rattle.tree.specs.Builders.{Holds, Stepped, Built};
 
@@ -234,12 +234,7 @@ pub fn property_tree_within(
     limits: Limits,
 ) -> TreeAnswer
     requires { ⌜ Allowed limits ⌝ }
-    ensures answered { λ r. ⌜ r ≡ tree-answer limits (now (src .entry)) (length (now (tokens .entry))) (length (now (events .entry))) (length (now (records .entry))) ⌝ }
-    ensures token_words { λ r. ⌜ now (tokens .exit) ≡ left-in (r .answer) (token-words (now (src .entry))) (now (tokens .entry)) ⌝ }
-    ensures event_words { λ r. ⌜ now (events .exit) ≡ left-in (r .answer) (event-words limits (now (src .entry))) (now (events .entry)) ⌝ }
-    ensures record_words { λ r. ⌜ now (records .exit) ≡ left-in (r .answer) (record-words limits (now (src .entry))) (now (records .entry)) ⌝ }
-    ensures derived { λ r. ⌜ (r .answer .number ≡ 0 → Read-as-derived (now (src .entry)) (r .answer) (now (events .exit))) ⌝ }
-    ensures recorded { λ r. ⌜ (r .answer .number ≡ 0 → Recorded (now (src .entry)) r (now (events .exit)) (now (records .exit))) ⌝ }
+    ensures { λ r. ⌜ Tree-called limits (now (src .entry)) (now (tokens .entry)) (now (events .entry)) (now (records .entry)) r (now (tokens .exit)) (now (events .exit)) (now (records .exit)) ⌝ }
 {
     let a = property_section_within(src, tokens, events, limits);
     if a.number != 0 {
@@ -265,12 +260,7 @@ pub fn property_tree(
     events: &mut [u32],
     records: &mut [u32],
 ) -> TreeAnswer
-    ensures answered { λ r. ⌜ r ≡ tree-answer base (now (src .entry)) (length (now (tokens .entry))) (length (now (events .entry))) (length (now (records .entry))) ⌝ }
-    ensures token_words { λ r. ⌜ now (tokens .exit) ≡ left-in (r .answer) (token-words (now (src .entry))) (now (tokens .entry)) ⌝ }
-    ensures event_words { λ r. ⌜ now (events .exit) ≡ left-in (r .answer) (event-words base (now (src .entry))) (now (events .entry)) ⌝ }
-    ensures record_words { λ r. ⌜ now (records .exit) ≡ left-in (r .answer) (record-words base (now (src .entry))) (now (records .entry)) ⌝ }
-    ensures derived { λ r. ⌜ (r .answer .number ≡ 0 → Read-as-derived (now (src .entry)) (r .answer) (now (events .exit))) ⌝ }
-    ensures recorded { λ r. ⌜ (r .answer .number ≡ 0 → Recorded (now (src .entry)) r (now (events .exit)) (now (records .exit))) ⌝ }
+    ensures { λ r. ⌜ Tree-called base (now (src .entry)) (now (tokens .entry)) (now (events .entry)) (now (records .entry)) r (now (tokens .exit)) (now (events .exit)) (now (records .exit)) ⌝ }
 {
     property_tree_within(src, tokens, events, records, BASE)
 }

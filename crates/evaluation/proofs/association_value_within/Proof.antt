@@ -11,33 +11,22 @@ use borrow.Author.Needs.{needs}
 use Rattle.aadl.specs.declared.Answer.{Answer}
 use Rattle.aadl.specs.Encoding.{words-for}
 use Rattle.aadl.specs.Values.{with-value}
-use Rattle.section.proofs.Demands.{Called}
+use Rattle.aadl.specs.Contracts.{Value-called}
 use Rattle.section.proofs.Unrefused.{all-passed, all-counted, tokens-fit, events-fit}
-use Rattle.evaluation.proofs.Demands.{Called-value, every-value-is-derived, every-value-is-valued}
 use Rattle.evaluation.proofs.Calling.{called-refused, was-read, called-judged, called-valued}
 use Rattle.evaluation.proofs.association_value_within.Statement.{statement}
 use Rattle.evaluation.proofs.association_value_within.Tie as tie
-
--- What the section call answered and left.
-section : (q : tie.After-property-section-within) →
-    let args = q .before .before .before .before .before .before .args in
-    let call = q .property-section-within in
-    Called (args .limits) (args .src .now) (args .tokens .now) (args .events .now) (call .result) (call .last .1 .0) (call .last .1 .1 .0)
-section q =
-    let e = q .property-section-within .ensures in
-    record { answer = e .0; token-words-left = e .1 .0; event-words-left = e .1 .1 .0 }
 
 returns : tie.Need-returns
 returns c =
     let at-section = c .before .before .before .before .before .before in
     let at-args = at-section .before .before .before .before .before .before in
-    let x = called-refused (section at-section) (at-args .args .number) (c .if1 .taken) in
-    (x .answer, (x .token-words-left, (x .event-words-left, (every-value-is-derived x, every-value-is-valued x))))
+    called-refused (at-section .property-section-within .ensures) (at-args .args .number) (c .if1 .taken)
 
 token-count-fits : tie.Need-slice-reshare-prefix-judge
 token-count-fits c =
     let at-section = c .before .before .before .before .before .before in
-    tokens-fit (section at-section) (c .if1 .left)
+    tokens-fit (at-section .property-section-within .ensures) (c .if1 .left)
 
 token-count-is : tie.Need-slice-aggregate-judge
 token-count-is c =
@@ -48,12 +37,12 @@ event-count-small : tie.Need-mul-judge
 event-count-small c =
     let at-section = c .before .before .before .before .before .before .before .before in
     let z = c .before .before .if1 .left in
-    record { fits = omega (arith, ap (λ (a : Answer). a .events) (all-counted (section at-section) z), all-passed (section at-section) z .few) }
+    record { fits = omega (arith, ap (λ (a : Answer). a .events) (all-counted (at-section .property-section-within .ensures) z), all-passed (at-section .property-section-within .ensures) z .few) }
 
 event-count-fits : tie.Need-slice-reshare-prefix-judge-2
 event-count-fits c =
     let at-section = c .before .before .before .before .before .before .before .before in
-    events-fit (section at-section) (c .before .before .if1 .left)
+    events-fit (at-section .property-section-within .ensures) (c .before .before .if1 .left)
 
 event-count-is : tie.Need-slice-aggregate-judge-2
 event-count-is c =
@@ -66,7 +55,7 @@ judge-requires c κs =
     let at-if1 = c .before .before .before in
     let at-section = at-if1 .before .before .before .before .before .before in
     let at-args = at-section .before .before .before .before .before .before in
-    (at-args .args .limits, was-read (section at-section) (at-args .args .number) (at-if1 .if1 .left) (at-args .pre))
+    (at-args .args .limits, was-read (at-section .property-section-within .ensures) (at-args .args .number) (at-if1 .if1 .left) (at-args .pre))
 
 returns-2 : tie.Need-returns-2
 returns-2 c =
@@ -78,11 +67,10 @@ returns-2 c =
     let at-section = at-if1 .before .before .before .before .before .before in
     let at-args = at-section .before .before .before .before .before .before in
     let kept = at-section .property-section-within .kept in
-    let v = at-judge .judge .ensures (at-args .args .limits) (was-read (section at-section) (at-args .args .number) (at-if1 .if1 .left) (at-args .pre)) in
-    let x = called-judged (section at-section) (at-args .args .number) (at-if1 .if1 .left) v (with-value (at-refuse .refuse .result) (pos 0))
+    let v = at-judge .judge .ensures (at-args .args .limits) (was-read (at-section .property-section-within .ensures) (at-args .args .number) (at-if1 .if1 .left) (at-args .pre)) in
+    called-judged (at-section .property-section-within .ensures) (at-args .args .number) (at-if1 .if1 .left) v (with-value (at-refuse .refuse .result) (pos 0))
     (at-refuse .refuse .last .0) (at-clear .clear .last .0) (at-if2 .if2 .taken) (ap (λ (a : Answer). with-value a (pos 0)) (at-refuse .refuse .ensures .0))
-    (kept .1 .0) (kept .1 .1 .0) (at-refuse .refuse .ensures .1) (at-clear .clear .ensures) in
-    (x .answer, (x .token-words-left, (x .event-words-left, (every-value-is-derived x, every-value-is-valued x))))
+    (kept .1 .0) (kept .1 .1 .0) (at-refuse .refuse .ensures .1) (at-clear .clear .ensures)
 
 returns-3 : tie.Need-returns-3
 returns-3 c =
@@ -91,13 +79,12 @@ returns-3 c =
     let at-if1 = at-judge .before .before .before .before in
     let at-section = at-if1 .before .before .before .before .before .before in
     let at-args = at-section .before .before .before .before .before .before in
-    let v = at-judge .judge .ensures (at-args .args .limits) (was-read (section at-section) (at-args .args .number) (at-if1 .if1 .left) (at-args .pre)) in
+    let v = at-judge .judge .ensures (at-args .args .limits) (was-read (at-section .property-section-within .ensures) (at-args .args .number) (at-if1 .if1 .left) (at-args .pre)) in
     let back : toZ w64 (ofZ w64 (at-judge .judge .result .value)) ≡ at-judge .judge .result .value =
     toZ-ofZ w64 (at-judge .judge .result .value) (record { sfits = c .struct-told .given .1 .1 .0 .1 }) in
-    let y = called-valued (section at-section) (at-args .args .number) (at-if1 .if1 .left) v (at-if2 .if2 .left) in
-    let x = subst (λ (z : ℤ). Called-value (at-args .args .limits) (at-args .args .src .now) (at-args .args .tokens .now) (at-args .args .events .now) (at-args .args .number)
-    (with-value (at-section .property-section-within .result) z) (at-section .property-section-within .last .1 .0) (at-section .property-section-within .last .1 .1 .0)) (sym back) y in
-    (x .answer, (x .token-words-left, (x .event-words-left, (every-value-is-derived x, every-value-is-valued x))))
+    let y = called-valued (at-section .property-section-within .ensures) (at-args .args .number) (at-if1 .if1 .left) v (at-if2 .if2 .left) in
+    subst (λ (z : ℤ). Value-called (at-args .args .limits) (at-args .args .src .now) (at-args .args .tokens .now) (at-args .args .events .now) (at-args .args .number)
+    (with-value (at-section .property-section-within .result) z) (at-section .property-section-within .last .1 .0) (at-section .property-section-within .last .1 .1 .0)) (sym back) y
 
 pub association-value-within-spec : {M : Type 1} → statement M
 association-value-within-spec =

@@ -1,20 +1,21 @@
 -- The answer is that of the first check whose case holds (aadl's AnswerLaws); a refusal clears the words, and else they are filled. That
--- each token which is a word has that word's kind follows from both (aadl's `tokens-told`). Assumes nothing.
+-- each token which is a word has that word's kind follows from both (aadl's `tokens-promised`). Assumes nothing.
 use Prim.Native.Nat.{ℕ, suc, _≤_}
 use native.Mathlib.Omega.{arith}
 use mathlib.Core.Path.{_≡_, sym, ap, _∙_}
 use mathlib.Core.Bool.{false}
-use mathlib.Core.List.{List, []}
+use mathlib.Core.List.{List, [], _∷_}
 use lib.ListN.{length, take, replicate}
 use lib.Seq.{length-take-le}
 use Rattle.aadl.specs.declared.Answer.{Answer}
 use Rattle.aadl.specs.declared.Limits.{Limits}
 use Rattle.aadl.specs.Limits.{Allowed}
 use Rattle.aadl.specs.Tokens.{tokens}
-use Rattle.aadl.specs.WordKinds.{Words-told}
 use Rattle.aadl.specs.Answers.{refused, answered, all-tokens, tokens-answer, token-words, left-in}
+use Rattle.aadl.specs.Calls.{tokens-call}
+use Rattle.aadl.specs.Contracts.{Tokens-called}
 use Rattle.aadl.proofs.AnswerLaws.{too-long, not-utf8, no-word-left, not-closed, text-passes, tokens-answer-is, left-by-refusal, left-answered}
-use Rattle.aadl.proofs.WordTokens.{tokens-told}
+use Rattle.aadl.proofs.CallsRead.{tokens-promised}
 use Rattle.lexer.proofs.FillLaws.{filled-over, filled-all, filled-place, filled-count, all-written, first-written}
 use borrow.Author.Needs.{needs}
 use Rattle.lexer.proofs.tokenize_within.Statement.{statement}
@@ -24,11 +25,11 @@ use Rattle.lexer.proofs.tokenize_within.Tie as tie
 zeros : (r : Answer) (n p : ℕ) (ws old : List ℕ) → r ≡ refused (suc n) p → replicate (length old) 0 ≡ left-in r ws old
 zeros r n p ws old e = sym (left-by-refusal r ws old (λ z. omega (arith, z, ap (λ (a : Answer). a .number) e)))
 
--- the clauses, from the first two
-clauses : (limits : Limits) (text old ts : List ℕ) (r : Answer) → Allowed limits → (e : r ≡ tokens-answer limits text (length old)) →
-    (w : ts ≡ left-in r (token-words text) old) →
-    (r ≡ tokens-answer limits text (length old)) × ((ts ≡ left-in r (token-words text) old) × (r .number ≡ 0 → Words-told text (r .tokens) ts))
-clauses limits text old ts r h e w = (e, (w, tokens-told limits text old ts r h e w))
+-- so the call did what it promises
+called : (limits : Limits) (text old ts : List ℕ) (r : Answer) → Allowed limits → r ≡ tokens-answer limits text (length old) → ts ≡ left-in r (token-words text) old →
+    Tokens-called limits text old r ts
+unfolding tokens-call tokens-answer left-in
+called limits text old ts r h e w = tokens-promised limits text old (record { answer = e; exit = λ i. w i ∷ [] }) h
 
 returns : tie.Need-returns
 returns c =
@@ -39,7 +40,7 @@ returns c =
     let limits = x .limits in
     let a = too-long limits xs (length old) [] (all-tokens xs) ((c .before .before .before .before .if1) .taken) in
     let w = c .before .before .refuse in
-    clauses limits xs old _ _ (start .pre) (w .ensures .0 ∙ sym (tokens-answer-is limits xs (length old) ∙ a))
+    called limits xs old _ _ (start .pre) (w .ensures .0 ∙ sym (tokens-answer-is limits xs (length old) ∙ a))
     (w .ensures .1 ∙ zeros (w .result) 0 (limits .bytes) (token-words xs) old (w .ensures .0))
 
 returns-2 : tie.Need-returns-2
@@ -52,7 +53,7 @@ returns-2 c =
     let v = (c .before .before .before .before .before .valid-up-to) .ensures in
     let a = not-utf8 limits xs (length old) [] (all-tokens xs) ((c .before .before .before .before .before .before .if1) .left) (λ q. (c .before .before .before .before .if2) .taken (v ∙ q)) in
     let w = c .before .before .refuse2 in
-    clauses limits xs old _ _ (start .pre) (w .ensures .0 ∙ ap (refused 2) v ∙ sym (tokens-answer-is limits xs (length old) ∙ a))
+    called limits xs old _ _ (start .pre) (w .ensures .0 ∙ ap (refused 2) v ∙ sym (tokens-answer-is limits xs (length old) ∙ a))
     (w .ensures .1 ∙ zeros (w .result) 1 ((c .before .before .before .before .before .valid-up-to) .result) (token-words xs) old (w .ensures .0))
 
 returns-3 : tie.Need-returns-3
@@ -67,7 +68,7 @@ returns-3 c =
     let f = (c .before .before .before .before .before .before .before .fill) .result in
     let a = no-word-left limits xs (length old) [] (all-tokens xs) ((c .before .before .before .before .before .before .before .before .before .before .before .if1) .left) utf8 (filled-over xs (length old) f q ((c .before .before .before .before .if3) .taken)) in
     let w = c .before .before .refuse3 in
-    clauses limits xs old _ _ (start .pre) (w .ensures .0 ∙ ap (refused 3) (filled-place xs (length old) f q) ∙ sym (tokens-answer-is limits xs (length old) ∙ a))
+    called limits xs old _ _ (start .pre) (w .ensures .0 ∙ ap (refused 3) (filled-place xs (length old) f q) ∙ sym (tokens-answer-is limits xs (length old) ∙ a))
     (w .ensures .1 ∙ ap (λ (k : ℕ). replicate k 0) ((c .before .before .before .before .before .before .before .fill) .kept .1 .0) ∙ zeros (w .result) 2 (f .at) (token-words xs) old (w .ensures .0))
 
 -- where every token has a word: how many there are, and the words
@@ -109,7 +110,7 @@ returns-4 c =
     let u = c .before .before .before .before .before .unclosed-at in
     let a = not-closed limits xs (length old) [] (all-tokens xs) (q .before .before .before .before .if1 .left) utf8 (all q some) (λ z. c .before .before .before .before .if4 .taken (u .ensures ∙ z)) in
     let w = c .before .before .refuse4 in
-    clauses limits xs old _ _ (start .pre) (w .ensures .0 ∙ ap (refused 8) (u .ensures) ∙ sym (tokens-answer-is limits xs (length old) ∙ a))
+    called limits xs old _ _ (start .pre) (w .ensures .0 ∙ ap (refused 8) (u .ensures) ∙ sym (tokens-answer-is limits xs (length old) ∙ a))
     (w .ensures .1 ∙ ap (λ (k : ℕ). replicate k 0) (q .fill .kept .1 .0) ∙ zeros (w .result) 7 (u .result) (token-words xs) old (w .ensures .0))
 
 returns-5 : tie.Need-returns-5
@@ -122,7 +123,7 @@ returns-5 c =
     let limits = start .args .limits in
     let utf8 = sym (q .before .before .before .valid-up-to .ensures) ∙ q .before .before .if2 .left in
     let a = text-passes limits xs (length old) [] (all-tokens xs) (q .before .before .before .before .if1 .left) utf8 (all q some) (sym (c .before .unclosed-at .ensures) ∙ c .if4 .left) in
-    clauses limits xs old _ _ (start .pre) (ap (λ (n : ℕ). answered n 0 0) (count q some) ∙ sym (tokens-answer-is limits xs (length old) ∙ a))
+    called limits xs old _ _ (start .pre) (ap (λ (n : ℕ). answered n 0 0) (count q some) ∙ sym (tokens-answer-is limits xs (length old) ∙ a))
     (q .fill .ensures .1 ∙ all-written xs old (all q some) ∙ sym (left-answered (q .fill .result .count) 0 0 (token-words xs) old))
 
 pub tokenize-within-spec : {M : Type 1} → statement M

@@ -10,7 +10,7 @@ use Rattle.aadl.specs.Answers.{section-answer, token-words, event-words, left-i
 use Rattle.aadl.specs.Listing.{lent-tokens, lent-events, listing}
 use Rattle.writing.proofs.LeastLaws.{take-least}
 use Rattle.parser.specs.Input.{input}
-use Rattle.section.proofs.Demands.{Called}
+use Rattle.aadl.proofs.CallsRead.{section-answered, tokens-left, events-left}
 use Rattle.listing.specs.Positions.{begin}
 use Rattle.listing.specs.Pieces.{joined, left}
 use Rattle.listing.proofs.EndToEnd.{answer-lines, call-listed, first-bytes-listed}
@@ -50,16 +50,15 @@ returns c =
     let m : length (x .tokens .now) ≡ lent-tokens = at-tokens .property-section-within-arg .given .0 .1 in
     let n : length (x .events .now) ≡ lent-events = at-events .property-section-within-arg2 .given .0 .1 in
     let t = take-least _ (a .tokens) _ ts (at-least2 .least2 .ensures) (r .kept .1 .0 ∙ m) in
-    let called : Called (x .limits) src (x .tokens .now) (x .events .now) a ts es = record { answer = r .ensures .0; token-words-left = r .ensures .1 .0; event-words-left = r .ensures .1 .1 .0 } in
     let position-is = k .ensures ∙ ap (λ (l : List ℕ). begin (input src l)) t in
-    let listed = call-listed called (at-text .before .pre) m n (k .result) position-is in
-    let told = r .ensures .0 ∙ (λ i. section-answer (x .limits) (s i) (m i) (n i)) in
+    let listed = call-listed (r .ensures) (at-text .before .pre) m n (k .result) position-is in
+    let told = section-answered (r .ensures) ∙ (λ i. section-answer (x .limits) (s i) (m i) (n i)) in
     let position-told = position-is ∙ (λ i. begin (input (s i) (take (told i .tokens) ts))) in (
       (λ i. record { bytes = x .bytes; answer = told i; begun = false; event = 0; position = position-told i }),
       (
-        r .ensures .1 .0 ∙ (λ i. left-in (section-answer (x .limits) (s i) (m i) (n i)) (token-words (s i)) (x .tokens .now)),
+        tokens-left (r .ensures) ∙ (λ i. left-in (told i) (token-words (s i)) (x .tokens .now)),
         (
-          r .ensures .1 .1 .0 ∙ (λ i. left-in (section-answer (x .limits) (s i) (m i) (n i)) (event-words (x .limits) (s i)) (x .events .now)),
+          events-left (r .ensures) ∙ (λ i. left-in (told i) (event-words (x .limits) (s i)) (x .events .now)),
           record {
             lists =
                 λ t e. (λ i. joined (answer-lines (sym s i) ts es a (k .result))) ∙ listed ∙ ap (listing (x .limits)) (s ∙ e)

@@ -9,6 +9,7 @@ use Rattle.aadl.specs.NumberParts.{number-parts, part-numbers}
 use Rattle.aadl.specs.Answers.{tokens-answer, token-words, left-in}
 use Rattle.aadl.specs.declared.Answer.{Answer}
 use Rattle.aadl.specs.declared.Number.{Number}
+use Rattle.aadl.proofs.CallsRead.{tokens-answered, tokens-left-only}
 use Rattle.writing.proofs.WriteLaws.{wrote-same}
 use Rattle.records.specs.Records.{old-word, line}
 use Rattle.replay.specs.Calls.{parts-called}
@@ -33,7 +34,7 @@ returns c =
     let x = at-fill .before .before .before .before .before .args in
     let called = at-call .tokenize .ensures in
     wrote-same (at-put .put-parts .ensures)
-    (row (x .src .now) (length (x .tokens .now)) (x .number) _ _ _ _ (at-fill .fill .ensures) (called .0) (called .1 .0) (at-parts .number-parts .ensures .0))
+    (row (x .src .now) (length (x .tokens .now)) (x .number) _ _ _ _ (at-fill .fill .ensures) (tokens-answered called) (tokens-left-only called) (at-parts .number-parts .ensures .0))
 
 pub call-parts-spec : {M : Type 1} → statement M
 call-parts-spec =

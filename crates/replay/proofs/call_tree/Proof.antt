@@ -7,6 +7,7 @@ use Rattle.aadl.specs.Limits.{base}
 use Rattle.aadl.specs.Answers.{token-words, event-words, left-in}
 use Rattle.aadl.specs.Records.{record-words, tree-answer}
 use Rattle.aadl.specs.declared.TreeAnswer.{TreeAnswer}
+use Rattle.aadl.proofs.TreeCalls.{tree-answered, tree-left}
 use Rattle.writing.proofs.WriteLaws.{wrote-same}
 use Rattle.records.specs.Records.{old-word, tree-lines}
 use Rattle.replay.specs.Calls.{tree-called}
@@ -37,7 +38,7 @@ returns c =
     let called = at-call .property-tree .ensures in
     let same =
     lines (x .src .now) (length (x .tokens .now)) (length (x .events .now)) (length (x .records .now)) _ _ _ (at-fill .fill .ensures) (at-fill2 .fill2 .ensures) (at-fill3 .fill3 .ensures) _ _
-    _ _ (called .0) (called .1 .0) (called .1 .1 .0) (called .1 .1 .1 .0) in
+    _ _ (tree-answered called) (tree-left called .0) (tree-left called .1 .0) (tree-left called .1 .1) in
     wrote-same (at-put .put-tree .ensures) same
 
 pub call-tree-spec : {M : Type 1} → statement M

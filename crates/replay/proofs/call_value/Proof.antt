@@ -7,6 +7,7 @@ use Rattle.aadl.specs.Limits.{base}
 use Rattle.aadl.specs.Answers.{token-words, event-words, left-in}
 use Rattle.aadl.specs.Values.{value-answer}
 use Rattle.aadl.specs.declared.ValueAnswer.{ValueAnswer}
+use Rattle.aadl.proofs.ValueCalls.{value-answered, value-left}
 use Rattle.writing.proofs.WriteLaws.{wrote-same}
 use Rattle.records.specs.Records.{old-word, value-lines}
 use Rattle.replay.specs.Calls.{value-called}
@@ -34,7 +35,7 @@ returns c =
     let x = at-fill .before .before .before .before .before .before .args in
     let called = at-call .association-value .ensures in
     let same =
-    lines (x .src .now) (length (x .tokens .now)) (length (x .events .now)) (x .number) _ _ (at-fill .fill .ensures) (at-fill2 .fill2 .ensures) _ _ _ (called .0) (called .1 .0) (called .1 .1 .0) in
+    lines (x .src .now) (length (x .tokens .now)) (length (x .events .now)) (x .number) _ _ (at-fill .fill .ensures) (at-fill2 .fill2 .ensures) _ _ _ (value-answered called) (value-left called .0) (value-left called .1) in
     wrote-same (at-put .put-valued .ensures) same
 
 pub call-value-spec : {M : Type 1} → statement M

@@ -4,7 +4,6 @@ use mathlib.Core.Path.{sym}
 use native.Mathlib.Omega.{arith}
 use lib.Seq.{length-take-le}
 use borrow.Author.Needs.{needs}
-use Rattle.section.proofs.Demands.{every-reading-is-derived}
 use Rattle.section.proofs.Answering.{stopped-small, called-refused, passed-short, passed-fits, passed-words, called-stopped, called-answered}
 use Rattle.section.proofs.property_section_within.Statement.{statement}
 use Rattle.section.proofs.property_section_within.Tie as tie
@@ -15,14 +14,12 @@ returns c =
     let at-if1 = at-refuse .before .before in
     let at-tokenize = at-if1 .before .before .before .before in
     let at-args = at-tokenize .before .before .before .before .before in
-    let x = called-refused (at-args .args .limits) (at-args .args .src .now) (at-args .args .tokens .now) (at-args .args .events .now) (at-tokenize .tokenize-within .result) _ (at-tokenize .tokenize-within .ensures .0) (at-tokenize .tokenize-within .ensures .1 .0) _ _ (at-if1 .if1 .taken) (at-refuse .refuse .ensures .0) (at-refuse .refuse .ensures .1) in
-    (x .answer, (x .token-words-left, (x .event-words-left, every-reading-is-derived x)))
+    called-refused (at-tokenize .tokenize-within .ensures) (at-args .args .events .now) _ _ (at-if1 .if1 .taken) (at-refuse .refuse .ensures .0) (at-refuse .refuse .ensures .1)
 
 count-fits : tie.Need-slice-reshare-prefix-read
 count-fits c =
     let at-tokenize = c .before .before .before .before in
-    let at-args = at-tokenize .before .before .before .before .before in
-    passed-fits (at-args .args .limits) (at-args .args .src .now) (at-args .args .tokens .now) (at-args .args .events .now) (at-tokenize .tokenize-within .result) _ (at-tokenize .tokenize-within .ensures .0) (at-tokenize .tokenize-within .ensures .1 .0) (c .if1 .left) (at-tokenize .tokenize-within .kept .1 .0)
+    passed-fits (at-tokenize .tokenize-within .ensures) (c .if1 .left)
 
 count-is : tie.Need-slice-aggregate-read
 count-is c =
@@ -34,8 +31,8 @@ read-requires c κs =
     let at-if1 = c .before .before in
     let at-tokenize = at-if1 .before .before .before .before in
     let at-args = at-tokenize .before .before .before .before .before in (
-      passed-short (at-args .args .limits) (at-args .args .src .now) (at-args .args .tokens .now) (at-args .args .events .now) (at-tokenize .tokenize-within .result) _ (at-tokenize .tokenize-within .ensures .0) (at-tokenize .tokenize-within .ensures .1 .0) (at-if1 .if1 .left) (at-args .pre),
-      passed-words (at-args .args .limits) (at-args .args .src .now) (at-args .args .tokens .now) (at-args .args .events .now) (at-tokenize .tokenize-within .result) _ (at-tokenize .tokenize-within .ensures .0) (at-tokenize .tokenize-within .ensures .1 .0) (at-if1 .if1 .left),
+      passed-short (at-tokenize .tokenize-within .ensures) (at-if1 .if1 .left) (at-args .pre),
+      passed-words (at-tokenize .tokenize-within .ensures) (at-if1 .if1 .left),
     )
 
 number-fits : tie.Need-cast-refuse
@@ -52,19 +49,14 @@ returns-2 c =
     let at-read = at-if2 .before .before .before .before in
     let at-if1 = at-read .before .before .before in
     let at-tokenize = at-if1 .before .before .before .before in
-    let at-args = at-tokenize .before .before .before .before .before in
-    let x = called-stopped (at-args .args .limits) (at-args .args .src .now) (at-args .args .tokens .now) (at-args .args .events .now) (at-tokenize .tokenize-within .result) _ (at-tokenize .tokenize-within .ensures .0) (at-tokenize .tokenize-within .ensures .1 .0) (at-if1 .if1 .left)
-    (at-read .read .ensures) _ _ _ (at-if2 .if2 .taken) (at-refuse .refuse2 .ensures .0) (at-tokenize .tokenize-within .kept .1 .0) (at-refuse .refuse2 .ensures .1) (at-clear .clear .ensures) in
-    (x .answer, (x .token-words-left, (x .event-words-left, every-reading-is-derived x)))
+    called-stopped (at-tokenize .tokenize-within .ensures) (at-if1 .if1 .left) (at-read .read .ensures) _ _ _ (at-if2 .if2 .taken) (at-refuse .refuse2 .ensures .0) (at-tokenize .tokenize-within .kept .1 .0) (at-refuse .refuse2 .ensures .1) (at-clear .clear .ensures)
 
 returns-3 : tie.Need-returns-3
 returns-3 c =
     let at-read = c .before .before .before .before in
     let at-if1 = at-read .before .before .before in
     let at-tokenize = at-if1 .before .before .before .before in
-    let at-args = at-tokenize .before .before .before .before .before in
-    let x = called-answered (at-args .args .limits) (at-args .args .src .now) (at-args .args .tokens .now) (at-args .args .events .now) (at-tokenize .tokenize-within .result) _ (at-tokenize .tokenize-within .ensures .0) (at-tokenize .tokenize-within .ensures .1 .0) (at-if1 .if1 .left) (at-read .read .ensures) (c .if2 .left) in
-    (x .answer, (x .token-words-left, (x .event-words-left, every-reading-is-derived x)))
+    called-answered (at-tokenize .tokenize-within .ensures) (at-if1 .if1 .left) (at-read .read .ensures) (c .if2 .left)
 
 pub property-section-within-spec : {M : Type 1} → statement M
 property-section-within-spec =

@@ -7,21 +7,10 @@ use borrow.Author.Needs.{needs}
 use Rattle.aadl.specs.declared.Answer.{Answer}
 use Rattle.aadl.specs.Encoding.{words-for}
 use Rattle.aadl.specs.Records.{with-records}
-use Rattle.section.proofs.Demands.{Called}
 use Rattle.section.proofs.Unrefused.{passed-short, tokens-fit, token-words-counted, events-fit}
-use Rattle.tree.proofs.Demands.{every-tree-is-derived, every-tree-is-recorded}
 use Rattle.tree.proofs.Calling.{called-refused, events-stand, called-full, called-built}
 use Rattle.tree.proofs.property_tree_within.Statement.{statement}
 use Rattle.tree.proofs.property_tree_within.Tie as tie
-
--- What the section call answered and left.
-section : (q : tie.After-property-section-within) →
-    let args = q .before .before .before .before .before .before .before .args in
-    let call = q .property-section-within in
-    Called (args .limits) (args .src .now) (args .tokens .now) (args .events .now) (call .result) (call .last .1 .0) (call .last .1 .1 .0)
-section q =
-    let e = q .property-section-within .ensures in
-    record { answer = e .0; token-words-left = e .1 .0; event-words-left = e .1 .1 .0 }
 
 returns : tie.Need-returns
 returns c =
@@ -30,19 +19,18 @@ returns c =
     let at-section = at-if1 .before .before .before .before .before .before in
     let at-args = at-section .before .before .before .before .before .before .before in
     let gone = at-refused .without-records in
-    let x = called-refused (section at-section) (gone .result) (at-args .args .records .now) (gone .last .0) (at-if1 .if1 .taken) (gone .ensures .0) (gone .ensures .1) in
-    (x .answer, (x .token-words-left, (x .event-words-left, (x .record-words-left, (every-tree-is-derived x, every-tree-is-recorded x)))))
+    called-refused (at-section .property-section-within .ensures) (gone .result) (at-args .args .records .now) (gone .last .0) (at-if1 .if1 .taken) (gone .ensures .0) (gone .ensures .1)
 
 event-count-doubles : tie.Need-mul-build
 event-count-doubles c =
     let at-section = c .before .before .before .before .before .before .before in
     let at-args = at-section .before .before .before .before .before .before .before in
-    record { fits = omega (arith, at-args .good, at-section .property-section-within .kept .1 .1 .0, events-fit (section at-section) (c .before .if1 .left)) }
+    record { fits = omega (arith, at-args .good, at-section .property-section-within .kept .1 .1 .0, events-fit (at-section .property-section-within .ensures) (c .before .if1 .left)) }
 
 event-count-fits : tie.Need-slice-reshare-prefix-build
 event-count-fits c =
     let at-section = c .before .before .before .before .before .before .before in
-    events-fit (section at-section) (c .before .if1 .left)
+    events-fit (at-section .property-section-within .ensures) (c .before .if1 .left)
 
 event-count-is : tie.Need-slice-aggregate-build
 event-count-is c =
@@ -53,13 +41,13 @@ build-requires : tie.Need-build-requires
 build-requires c κs =
     let at-if1 = c .before .before .before in
     let at-section = at-if1 .before .before .before .before .before .before in
-    events-stand (section at-section) (at-if1 .if1 .left)
+    events-stand (at-section .property-section-within .ensures) (at-if1 .if1 .left)
 
 token-count-fits : tie.Need-slice-reshare-prefix-token-place
 token-count-fits c =
     let at-if1 = c .before .before .before .before .before .before .before .before in
     let at-section = at-if1 .before .before .before .before .before .before in
-    tokens-fit (section at-section) (at-if1 .if1 .left)
+    tokens-fit (at-section .property-section-within .ensures) (at-if1 .if1 .left)
 
 token-count-is : tie.Need-slice-aggregate-token-place
 token-count-is c =
@@ -71,8 +59,8 @@ token-place-requires c κs =
     let at-if1 = c .before .before .before .before .before .before .before .before .before in
     let at-section = at-if1 .before .before .before .before .before .before in
     let at-args = at-section .before .before .before .before .before .before .before in (
-      passed-short (section at-section) (at-if1 .if1 .left) (at-args .pre),
-      token-words-counted (section at-section) (at-if1 .if1 .left),
+      passed-short (at-section .property-section-within .ensures) (at-if1 .if1 .left) (at-args .pre),
+      token-words-counted (at-section .property-section-within .ensures) (at-if1 .if1 .left),
     )
 
 returns-2 : tie.Need-returns-2
@@ -87,11 +75,10 @@ returns-2 c =
     let at-section = at-if1 .before .before .before .before .before .before in
     let kept = at-section .property-section-within .kept in
     let gone = at-refused .without-records2 in
-    let x = called-full (section at-section) (at-if1 .if1 .left) (at-build .build .ensures)
+    called-full (at-section .property-section-within .ensures) (at-if1 .if1 .left) (at-build .build .ensures)
     (gone .result) (at-place .token-place .result) (at-refuse .refuse .last .0) (at-clear .clear .last .0) (gone .last .0)
     (at-if2 .if2 .taken) (at-place .token-place .ensures) (gone .ensures .0 ∙ ap (λ (a : Answer). with-records a 0) (at-refuse .refuse .ensures .0)) (kept .1 .0) (kept .1 .1 .0)
-    (at-refuse .refuse .ensures .1) (at-clear .clear .ensures) (gone .ensures .1) in
-    (x .answer, (x .token-words-left, (x .event-words-left, (x .record-words-left, (every-tree-is-derived x, every-tree-is-recorded x)))))
+    (at-refuse .refuse .ensures .1) (at-clear .clear .ensures) (gone .ensures .1)
 
 -- The lent words are as many as they were: those that the refusal zeroes.
 tokens-long : tie.Need-same-length-4
@@ -111,8 +98,7 @@ returns-3 c =
     let at-build = c .before .before .before .before in
     let at-if1 = at-build .before .before .before .before in
     let at-section = at-if1 .before .before .before .before .before .before in
-    let x = called-built (section at-section) (at-if1 .if1 .left) (at-build .build .ensures) (c .if2 .left) in
-    (x .answer, (x .token-words-left, (x .event-words-left, (x .record-words-left, (every-tree-is-derived x, every-tree-is-recorded x)))))
+    called-built (at-section .property-section-within .ensures) (at-if1 .if1 .left) (at-build .build .ensures) (c .if2 .left)
 
 pub property-tree-within-spec : {M : Type 1} → statement M
 property-tree-within-spec =

@@ -1,0 +1,33 @@
+-- What each public call promises, a record a call: its answer and every word of every lent buffer at exit (`did`, demand 2), and what that comes to
+-- where nothing is refused. Of a function to which a text and words were lent (tokens, events, records), which answered a and left the words
+-- so. Assumes nothing.
+use Prim.Native.Nat.{ℕ}
+use mathlib.Core.Path.{_≡_}
+use mathlib.Core.List.{List, [], _∷_}
+use Rattle.aadl.specs.declared.Answer.{Answer}
+use Rattle.aadl.specs.declared.TreeAnswer.{TreeAnswer}
+use Rattle.aadl.specs.declared.ValueAnswer.{ValueAnswer}
+use Rattle.aadl.specs.Limits.{Limits}
+use Rattle.aadl.specs.WordKinds.{Words-told}
+use Rattle.aadl.specs.Calls.{Did, tokens-call, section-call}
+use Rattle.aadl.specs.Demand.{Read-as-derived}
+use Rattle.aadl.specs.Records.{tree-call, Recorded}
+use Rattle.aadl.specs.Values.{value-call, Valued}
+
+pub record Tokens-called (limits : Limits) (text tokens : List ℕ) (a : Answer) (tokens-left : List ℕ) : Type 0 where
+  pub did : Did (tokens-call limits text tokens) a (tokens-left ∷ [])
+  pub words-told : a .number ≡ 0 → Words-told text (a .tokens) tokens-left
+
+pub record Section-called (limits : Limits) (text tokens events : List ℕ) (a : Answer) (tokens-left events-left : List ℕ) : Type 0 where
+  pub did : Did (section-call limits text tokens events) a (tokens-left ∷ events-left ∷ [])
+  pub derived : a .number ≡ 0 → Read-as-derived text a events-left
+
+pub record Tree-called (limits : Limits) (text tokens events records : List ℕ) (a : TreeAnswer) (tokens-left events-left records-left : List ℕ) : Type 0 where
+  pub did : Did (tree-call limits text tokens events records) a (tokens-left ∷ events-left ∷ records-left ∷ [])
+  pub derived : a .answer .number ≡ 0 → Read-as-derived text (a .answer) events-left
+  pub recorded : a .answer .number ≡ 0 → Recorded text a events-left records-left
+
+pub record Value-called (limits : Limits) (text tokens events : List ℕ) (number : ℕ) (a : ValueAnswer) (tokens-left events-left : List ℕ) : Type 0 where
+  pub did : Did (value-call limits text tokens events number) a (tokens-left ∷ events-left ∷ [])
+  pub derived : a .answer .number ≡ 0 → Read-as-derived text (a .answer) events-left
+  pub valued : a .answer .number ≡ 0 → Valued text number a
