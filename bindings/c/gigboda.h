@@ -140,6 +140,9 @@ int64_t gigboda_association_value(const char *text, size_t text_len, uint32_t *t
 /* The tokens-only call. */
 void gigboda_tokenize(const char *text, size_t text_len, uint32_t *tokens, size_t tokens_len, size_t *answer, size_t answer_len);
 
+/* Whether a section that was read is clean, 1 or 0, by the tokens taken and the words that its answer counts. */
+uint32_t gigboda_clean(size_t taken, const uint32_t *tokens, size_t tokens_len, const uint32_t *events, size_t events_len);
+
 /* Start and length of a token's text, as far as they are lent. */
 void gigboda_token_text(const char *text, size_t text_len, const uint32_t *words, size_t words_len, size_t number, size_t *part,
                         size_t part_len);
@@ -399,13 +402,7 @@ static inline const char *gigboda_message_text(unsigned message)
  * exactly when the section grammar derives the text. A refusal and an answer of the tokens-only call have no events and are not clean. */
 static inline int gigboda_is_clean(const struct gigboda_answer *answer, const uint32_t *tokens, const uint32_t *events)
 {
-    size_t whole = 0, errors = 0, i;
-
-    for (i = 0; i < answer->tokens; i++)
-        whole += !gigboda_is_trivia(tokens[i]);
-    for (i = 0; i < answer->events; i++)
-        errors += gigboda_event_class(gigboda_event_word(events, i)) == GIGBODA_CLASS_ERROR;
-    return answer->events > 0 && errors == 0 && whole == answer->taken;
+    return answer->events > 0 && gigboda_clean(answer->taken, tokens, answer->tokens, events, 2 * answer->events) == 1;
 }
 
 /* ---- The tree, step by step ----

@@ -37,6 +37,7 @@ extern "C" {
         answer_len: usize,
     ) -> i64;
     fn gigboda_tokenize(text: *const u8, text_len: usize, tokens: *mut u32, tokens_len: usize, answer: *mut usize, answer_len: usize);
+    fn gigboda_clean(taken: usize, tokens: *const u32, tokens_len: usize, events: *const u32, events_len: usize) -> u32;
     fn gigboda_token_text(
         text: *const u8,
         text_len: usize,
@@ -124,6 +125,13 @@ pub fn tokens(text: &[u8], tokens: &mut [u32]) -> Answer {
     // As above.
     unsafe { gigboda_tokenize(text.as_ptr(), text.len(), tokens.as_mut_ptr(), tokens.len(), answer.as_mut_ptr(), answer.len()) }
     answer
+}
+
+/// Of the words that an answer counts.
+pub fn is_clean(taken: usize, tokens: &[u32], events: &[u32]) -> bool {
+    // As above.
+    let clean = unsafe { gigboda_clean(taken, tokens.as_ptr(), tokens.len(), events.as_ptr(), events.len()) };
+    clean == 1
 }
 
 /// Start and length.

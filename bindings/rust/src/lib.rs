@@ -308,9 +308,7 @@ impl<'a> Section<'a> {
 
     /// Whether there is no Error and every token is taken: exactly when the section grammar derives the text.
     pub fn is_clean(&self) -> bool {
-        let whole = self.token_words.iter().filter(|word| !is_trivia(**word)).count();
-        let is_good = |pair: &[u32]| !matches!(Event::of(pair[0]), None | Some(Event::Error { .. }));
-        whole == self.taken && self.event_words.chunks_exact(EVENT_WORDS).all(is_good)
+        calls::is_clean(self.taken, self.token_words, self.event_words)
     }
 }
 

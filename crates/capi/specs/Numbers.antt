@@ -1,11 +1,15 @@
 -- What the exported calls write into lent numbers. Assumes nothing.
 use Prim.Native.Nat.{ℕ, min}
 use mathlib.Core.Path.{_≡_}
+use mathlib.Core.Bool.{Bool}
 use mathlib.Core.List.{List, [], _∷_, _++_}
 use lib.ListN.{length, take, drop}
 use Rattle.aadl.specs.declared.Answer.{Answer}
 use Rattle.aadl.specs.declared.TreeAnswer.{TreeAnswer}
 use Rattle.aadl.specs.Tokens.{total, token-text}
+use Rattle.aadl.specs.Encoding.{first-words}
+use Rattle.aadl.specs.Answers.{answered}
+use Rattle.aadl.specs.Demand.{is-clean}
 use Rattle.aadl.specs.NumberParts.{number-parts, part-numbers}
 use Rattle.lexer.specs.Filling.{write}
 
@@ -23,6 +27,10 @@ pub record Exported {A : Type 0} (numbers : A → List ℕ) (Promise : A → Typ
   pub answer : A
   pub promise : Promise answer
   pub told : new ≡ write (numbers answer) old
+
+-- Whether words that an answer of the section call counts are clean, where it refuses nothing and so many tokens are taken.
+abbrev pub clean-words : (taken : ℕ) → (tokens events : List ℕ) → Bool
+clean-words n ts es = is-clean (answered (length ts) n (length (first-words es))) ts es
 
 -- Where a token's text starts: where the lengths before it sum to, but never past the text's end.
 abbrev pub text-start : (text words : List ℕ) → (number : ℕ) → ℕ

@@ -2,14 +2,16 @@
 // called from outside. Every length is allowed, and no call asks anything of what is lent.
 
 use aadl::Answer;
+use codec::events_told;
 ghost use mathlib.Core.Path.{_≡_};
+ghost use mathlib.Core.Bool.{cond};
 ghost use lib.ListN.{length, set};
 ghost use Rattle.aadl.specs.Limits.{base};
 ghost use Rattle.aadl.specs.Tokens.{from-token, token-text};
 ghost use Rattle.aadl.specs.NumberParts.{number-parts, Parts-hold};
 ghost use Rattle.aadl.specs.Contracts.{Tokens-called, Section-called, Tree-called, Value-called};
 ghost use Rattle.lexer.specs.Filling.{write};
-ghost use Rattle.capi.specs.Numbers.{numbers, six-in-a-row, Exported, text-start, part-told, part-of, parts-told};
+ghost use Rattle.capi.specs.Numbers.{numbers, six-in-a-row, Exported, clean-words, text-start, part-told, part-of, parts-told};
 
 // Sets a number if it is lent.
 fn put(lent: &mut [usize], at: usize, n: usize)
@@ -101,6 +103,24 @@ pub extern "C" fn gigboda_tokenize(src: &[u8], tokens: &mut [u32], answer: &mut 
 {
     let a = lexer::tokenize(src, tokens);
     tell_answer(answer, a);
+}
+
+// Whether a section that was read is clean, 1 or 0: by the tokens taken and the words that an answer counts which refuses nothing.
+#[no_mangle]
+pub extern "C" fn gigboda_clean(taken: usize, tokens: &[u32], events: &[u32]) -> u32
+    ensures { λ r. ⌜ r ≡ cond (clean-words taken (now (tokens .entry)) (now (events .entry))) 1 0 ⌝ }
+{
+    let counted = Answer {
+        number: 0,
+        place: 0,
+        tokens: tokens.len(),
+        taken,
+        events: events_told(events),
+    };
+    if section::is_clean(counted, tokens, events) {
+        return 1;
+    }
+    0
 }
 
 // The text of a token, by its number: where it starts in the lent text and how long it is, into lent numbers. An exported function

@@ -79,14 +79,6 @@ pub fn class_in(w: u32) -> u32
     w / CLASS
 }
 
-// The first of the words of a class.
-pub fn class_start(class: u32) -> u32
-    requires { ⌜ class < 256 ⌝ }
-    ensures { λ r. ⌜ r ≡ class * 16777216 ⌝ }
-{
-    class * CLASS
-}
-
 pub fn start_word(kind: u32) -> u32
     requires { ⌜ kind < 256 ⌝ }
     ensures { λ r. ⌜ r ≡ event-word (E.start kind 0) ⌝ }

@@ -1,12 +1,12 @@
 -- Words in a band: how many they are, and where each stands. Assumes nothing.
 use Prim.Native.Nat.{ℕ, zero, suc}
-use mathlib.Core.Bool.{Bool, _&&_, Bool·beq, cond}
+use mathlib.Core.Bool.{Bool, _&&_, cond}
 use mathlib.Core.List.{List, [], _∷_}
 use lib.Dec.{leb, ltb}
 use Rattle.counting.specs.declared.Band.{Band}
 
 abbrev pub within-band : Band → ℕ → Bool
-within-band b w = Bool·beq (leb (b .from) w && ltb w (b .to)) (b .inside)
+within-band b w = leb (b .from) w && ltb w (b .to)
 
 unfoldable pub tally : Band → List ℕ → ℕ
 tally b [] = 0

@@ -8,11 +8,10 @@ ghost use lib.ListN.{length, drop};
 ghost use Rattle.aadl.specs.Tokens.{total};
 ghost use Rattle.counting.specs.Bands.{within-band, tally, nth-within};
 
-// The words from one up to another; or all others.
+// The words from one up to another.
 pub struct Band {
     pub from: u32,
     pub to: u32,
-    pub inside: bool,
 }
 
 // How many words are gone over at once.
@@ -21,7 +20,7 @@ const STRIDE: usize = 64;
 fn within(w: u32, b: Band) -> bool
     ensures { λ r. ⌜ r ≡ within-band b w ⌝ }
 {
-    ((b.from <= w) & (w < b.to)) == b.inside
+    (b.from <= w) & (w < b.to)
 }
 
 fn one_if(b: bool) -> u32
@@ -34,7 +33,7 @@ fn one_if(b: bool) -> u32
 }
 
 // How many words lie in a band.
-pub fn count(words: &[u32], b: Band) -> usize
+fn count(words: &[u32], b: Band) -> usize
     requires { ⌜ length (now words) < 4294967296 ⌝ }
     ensures { λ r. ⌜ r ≡ tally b (now (words .entry)) ⌝ }
 {

@@ -3,6 +3,7 @@
 use Prim.Native.Nat.{ℕ}
 use native.Mathlib.Omega.{arith}
 use mathlib.Core.Path.{_≡_, refl, ap, _∙_}
+use mathlib.Core.Bool.{Bool}
 use mathlib.Core.List.{List, [], _∷_}
 use lib.ListN.{length, take, replicate}
 use lib.IntN.{pos}
@@ -14,11 +15,13 @@ use Rattle.aadl.specs.Limits.{Allowed}
 use Rattle.aadl.specs.Encoding.{words-for}
 use Rattle.aadl.specs.Calls.{tokens-call, section-call}
 use Rattle.aadl.specs.Values.{with-value, value-refused, valuing, value-call}
+use Rattle.aadl.specs.Demand.{is-clean}
 use Rattle.aadl.specs.Contracts.{Section-called, Value-called}
 use Rattle.aadl.proofs.Extending.{did-same, on-refused, own-refuses, none-refuses}
 use Rattle.aadl.proofs.CallsRead.{section-sound}
 use Rattle.aadl.proofs.ValueCalls.{value-promised}
-use Rattle.section.proofs.Unrefused.{all-passed, passed-short, all-counted, token-words-counted, event-words-counted}
+use Rattle.section.proofs.Unrefused.{all-passed, passed-short, token-words-counted, event-words-counted}
+use Rattle.section.proofs.Demands.{clean-is-the-reading}
 use Rattle.evaluation.specs.declared.Verdict.{Verdict}
 use Rattle.evaluation.specs.Verdicts.{Was-read, judged, Judged}
 
@@ -33,15 +36,15 @@ module _ {limits : Limits} {text old last : List ℕ} {a : Answer} {ts es : List
   called-refused f = value-promised limits text old last k (on-refused (section-sound limits text old last) (valuing limits text k) (c .did) f)
 
   module _ (z : a .number ≡ 0) where
-    pub was-read : Allowed limits → Was-read limits text (take (a .tokens) ts) (take (words-for (a .events)) es) (a .taken)
-    was-read h =
+    pub was-read : Allowed limits → (clean : Bool) → clean ≡ is-clean a ts es → Was-read limits text (take (a .tokens) ts) (take (words-for (a .events)) es) clean
+    was-read h clean e =
         record {
           short = passed-short c z h;
           words = token-words-counted c z;
           pairs = event-words-counted c z;
           deep = all-passed c z .deep;
           few = omega (arith, all-passed c z .few);
-          counted = ap (λ (x : Answer). x .taken) (all-counted c z);
+          cleanly = e ∙ clean-is-the-reading c h z;
         }
 
     module _ {v : Verdict} (j : Judged limits text k v) where

@@ -1,22 +1,15 @@
--- Words of events in a band that no second word lies in: as many as first words do, and each where its event is. By induction over the
--- events. Assumes nothing.
+-- Words of events in a band that no second word lies in: each is where its event is. By induction over the events. Assumes nothing.
 use Prim.Native.Nat.{ℕ, zero, suc, _+_}
 use native.Mathlib.Omega.{arith}
-use mathlib.Core.Path.{_≡_, refl, ap}
-use mathlib.Core.Bool.{Bool, true, false, cond}
+use mathlib.Core.Path.{_≡_, refl}
+use mathlib.Core.Bool.{Bool, true, false}
 use mathlib.Core.List.{List, [], _∷_, map}
 use Rattle.predictive.specs.Events.{Event, taken}
 use Rattle.aadl.specs.Encoding.{event-word, words-for, words-of}
 use Rattle.counting.specs.declared.Band.{Band}
-use Rattle.counting.specs.Bands.{within-band, tally, nth-within}
+use Rattle.counting.specs.Bands.{within-band, nth-within}
 
 module _ (b : Band) (number : ℕ → ℕ) (none : (t : ℕ) → within-band b (number t) ≡ false) where
-  pub tally-first : (t : ℕ) (es : List Event) → tally b (words-of number t es) ≡ tally b (map event-word es)
-  unfolding tally
-  tally-first t [] = refl
-  tally-first t (e ∷ es) =
-      rw (none t) (ap (λ (n : ℕ). cond (within-band b (event-word e)) (suc n) n) (tally-first (t + taken (e ∷ [])) es))
-
   pub nth-first : (t n : ℕ) (es : List Event) → nth-within b n (words-of number t es) ≡ words-for (nth-within b n (map event-word es))
   unfolding nth-within
   nth-first t n [] = refl

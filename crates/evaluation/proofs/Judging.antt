@@ -4,23 +4,22 @@
 use Prim.Native.Nat.{ℕ, suc, _+_, _≤_, _<_}
 use native.Mathlib.Omega.{arith}
 use mathlib.Core.Path.{_≡_, refl, sym, ap, _∙_}
-use mathlib.Core.Bool.{Bool, true, false, not, _&&_}
+use mathlib.Core.Bool.{Bool, true, false, not}
 use mathlib.Core.List.{List, [], map, append-nil}
 use mathlib.Core.Option.{Option, none, some}
 use lib.ListN.{length, getD, take, drop, length-map, List·getD-map}
-use lib.Dec.{ltb, eqb}
+use lib.Dec.{ltb}
 use borrow.Author.Tests.{ltb-true, ltb-false, le-leb, lt-leb, eq-eqb, ne-eqb}
-use Rattle.predictive.specs.Events.{Event, taken, erring, any-fault}
+use Rattle.predictive.specs.Events.{Event, taken}
 use Rattle.predictive.proofs.Tests.{never, or-neither, or-true-l, or-true-r}
 use Rattle.aadl.specs.declared.Answer.{Answer}
 use Rattle.aadl.specs.declared.Limits.{Limits}
 use Rattle.aadl.specs.Tokens.{tokens, token-word}
-use Rattle.aadl.specs.Symbols.{shown, symbols, kinds, start-of, raw-number}
+use Rattle.aadl.specs.Symbols.{symbols, start-of, raw-number}
 use Rattle.aadl.specs.Encoding.{event-word, event-in, words-for, words-of}
 use Rattle.aadl.specs.Reading.{events, reads-cleanly}
 use Rattle.aadl.specs.Values.{Constant, Outcome, exact, beyond, in-range, value, number-at, Association, association, nth-association, text-associations, with-value, value-refused}
 use Rattle.aadl.proofs.Lists.{each-at}
-use Rattle.aadl.proofs.SymbolLaws.{symbols-show-kinds}
 use Rattle.aadl.proofs.TokensCover.{tokens-within-text}
 use Rattle.aadl.proofs.RawNumbers.{raw-number-counted}
 use Rattle.aadl.proofs.EventPairs.{length-words-of, first-words-of}
@@ -28,7 +27,6 @@ use Rattle.aadl.proofs.EventWords.{words-tell-events}
 use Rattle.aadl.proofs.EventTokens.{token-named-is}
 use Rattle.aadl.proofs.ValueCalls.{lacks-it, refused-lacking, refused-no-constant, refused-beyond, value-passed}
 use Rattle.wholes.specs.Integers.{integer}
-use Rattle.section.proofs.CleanLaws.{solid-kinds}
 use Rattle.counting.specs.Bands.{tally, nth-within}
 use Rattle.counting.proofs.Counted.{nth-among, nth-none}
 use Rattle.constants.specs.declared.Outcome.{Outcome as Told}
@@ -38,14 +36,13 @@ use Rattle.constants.specs.Terms.{Held, held-exact, held-beyond, Value-read, no
 use Rattle.constants.proofs.Sums.{outcome}
 use Rattle.constants.proofs.FirstValues.{Right}
 use Rattle.evaluation.specs.declared.Verdict.{Verdict}
-use Rattle.evaluation.specs.Words.{solid, starting, failing}
+use Rattle.evaluation.specs.Words.{starting}
 use Rattle.evaluation.specs.Starts.{starts-in}
 use Rattle.evaluation.specs.Verdicts.{Was-read, judged, Judged}
 use Rattle.evaluation.proofs.AssociationStarts.{text-starts, text-valued}
-use Rattle.evaluation.proofs.WordBands.{number-starts-not, number-fails-not}
-use Rattle.evaluation.proofs.FirstWords.{tally-first, nth-first}
+use Rattle.evaluation.proofs.WordBands.{number-starts-not}
+use Rattle.evaluation.proofs.FirstWords.{nth-first}
 use Rattle.evaluation.proofs.StartWords.{starts-counted, start-found}
-use Rattle.evaluation.proofs.CleanWords.{no-error-counted, solid-counted}
 
 -- VERDICTS -------------------------------------------------------------------------------------------------------------
 
@@ -120,7 +117,7 @@ value-fits text f t x c b = near text (some-value text x c .held) b .fits
 
 -- WAY BY WAY -----------------------------------------------------------------------------------------------------------
 
-module _ {limits : Limits} {text toks ws : List ℕ} {count : ℕ} (x : Was-read limits text toks ws count) where
+module _ {limits : Limits} {text toks ws : List ℕ} {clean : Bool} (x : Was-read limits text toks ws clean) where
   abbrev es : List Event
   es = events limits (symbols text)
 
@@ -144,16 +141,6 @@ module _ {limits : Limits} {text toks ws : List ℕ} {count : ℕ} (x : Was-read
   small : (n : ℕ) → raw-number text n < 65536
   small n = omega (arith, number-counted n, few-tokens)
 
-  -- What is counted tells whether the text is clean.
-  pub clean-counted : (eqb (tally failing ws) 0 && eqb count (tally solid toks)) ≡ reads-cleanly limits (symbols text)
-  unfolding reads-cleanly
-  clean-counted =
-      let many : length (kinds text) ≡ length (symbols text) = sym (ap length (symbols-show-kinds text)) ∙ length-map (symbols text) shown in
-      let tokens = ap (tally solid) (x .words) ∙ solid-counted text (x .short) ∙ solid-kinds text (x .short) ∙ many in
-      let failed = ap (tally failing) (x .pairs) ∙ tally-first failing (raw-number text) (λ n. number-fails-not (raw-number text n) (small n)) 0 es in
-      let errors = ap (λ (n : ℕ). eqb n 0) failed ∙ no-error-counted firsts ∙ ap (λ (l : List Event). not (erring any-fault l)) tells in
-      λ i. errors i && eqb (x .counted i) (tokens i)
-
   module _ (k : ℕ) where
     abbrev found : List Association
     found = text-associations limits text
@@ -165,8 +152,8 @@ module _ {limits : Limits} {text toks ws : List ℕ} {count : ℕ} (x : Was-read
     lacking : (v : Verdict) → v .number ≡ 9 → v .place ≡ length text → lacks-it limits text k ≡ true → Judged limits text k v
     lacking v e f h = record { decides = λ a. refused-lacking limits text k a h ∙ sym (refuses v 8 (length text) e f _) }
 
-    pub judged-unclean : (v : Verdict) → v .number ≡ 9 → v .place ≡ length text → reads-cleanly limits (symbols text) ≡ false → Judged limits text k v
-    judged-unclean v e f c = lacking v e f (or-true-l (not (reads-cleanly limits (symbols text))) _ (ap not c))
+    pub judged-unclean : (v : Verdict) → v .number ≡ 9 → v .place ≡ length text → clean ≡ false → Judged limits text k v
+    judged-unclean v e f c = lacking v e f (or-true-l (not (reads-cleanly limits (symbols text))) _ (ap not (sym (x .cleanly) ∙ c)))
 
     -- the event of the association's Start, and its first word among all words
     abbrev start : ℕ
@@ -176,7 +163,10 @@ module _ {limits : Limits} {text toks ws : List ℕ} {count : ℕ} (x : Was-read
     start-word =
         ap (nth-within starting k) (x .pairs) ∙ nth-first starting (raw-number text) (λ n. number-starts-not (raw-number text n) (small n)) 0 k es
 
-    module _ (c : reads-cleanly limits (symbols text) ≡ true) where
+    module _ (so : clean ≡ true) where
+      c : reads-cleanly limits (symbols text) ≡ true
+      c = sym (x .cleanly) ∙ so
+
       all-starts : map (λ (a : Association). a .first) found ≡ starts-in 0 (map event-in firsts)
       all-starts = text-starts limits text c ∙ ap (starts-in 0) (sym tells)
 

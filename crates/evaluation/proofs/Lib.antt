@@ -2,7 +2,6 @@ pub mod AssociationStarts
 pub mod WordBands
 pub mod FirstWords
 pub mod StartWords
-pub mod CleanWords
 pub mod Judging
 pub mod Demands
 pub mod Calling

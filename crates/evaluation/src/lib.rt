@@ -1,38 +1,31 @@
-// The value call: what the section call does, and the value of an association. Words are counted and found by where they lie among all
-// words, second words of events too, which are below all that is looked for; the second word of an association's Start is its first token.
+// The value call: what the section call does, and the value of an association. Its Start is found by where words lie among all words,
+// second words of events too, which are below all that is looked for; the second word of the Start is the association's first token.
 // Only the association's own tokens are gone over one by one.
 
 use aadl::Limits;
 use aadl::ValueAnswer;
 use codec::EVENT_WORDS;
-use codec::class_start;
 use codec::start_word;
-use codec::token_word;
 use constants::first_value;
 use counting::Band;
-use counting::count;
 use counting::find;
 use counting::sum_of_lengths;
 use lexer::BASE;
 use lexer::clear;
 use lexer::refuse;
 use parser::Parser;
+use section::is_clean;
 use section::property_section_within;
-use syntax_kind::COMMENT;
 use syntax_kind::PROPERTY_ASSOCIATION;
-use syntax_kind::WHITESPACE;
 use wholes::to_i64;
 ghost use mathlib.Core.Path.{_≡_};
-ghost use mathlib.Core.Bool.{_&&_};
 ghost use Prim.Native.Nat.{ℕ, _≤_, _<_};
 ghost use lib.ListN.{length};
-ghost use lib.Dec.{eqb};
 ghost use Rattle.aadl.specs.Limits.{base, Allowed};
 ghost use Rattle.aadl.specs.Symbols.{raw-number};
 ghost use Rattle.aadl.specs.Answers.{token-words};
 ghost use Rattle.aadl.specs.Contracts.{Value-called};
 ghost use Rattle.section.specs.Standing.{Passed};
-ghost use Rattle.counting.specs.Bands.{tally};
 ghost use Rattle.evaluation.specs.Words as W;
 ghost use Rattle.evaluation.specs.Verdicts.{Was-read, Judged};
 
@@ -43,54 +36,13 @@ pub struct Verdict {
     pub value: i64,
 }
 
-// WHERE WORDS LIE
-
-// Token words of no trivia, whose two kinds are neighbours.
-fn solid() -> Band
-    ensures { λ r. ⌜ r ≡ W.solid ⌝ }
-{
-    let from = token_word(WHITESPACE, 0);
-    let to = token_word(COMMENT + 1, 0);
-    Band {
-        from,
-        to,
-        inside: false,
-    }
-}
-
 // First words of events: Starts of an association.
 fn starting() -> Band
     ensures { λ r. ⌜ r ≡ W.starting ⌝ }
 {
     let from = start_word(PROPERTY_ASSOCIATION);
     let to = start_word(PROPERTY_ASSOCIATION + 1);
-    Band {
-        from,
-        to,
-        inside: true,
-    }
-}
-
-// Errors.
-fn failing() -> Band
-    ensures { λ r. ⌜ r ≡ W.failing ⌝ }
-{
-    let to = class_start(3);
-    Band {
-        from: 0,
-        to,
-        inside: false,
-    }
-}
-
-// Whether words of a text are clean, where so many tokens are taken: no Error, every non-trivia token taken.
-fn clean(toks: &[u32], events: &[u32], taken: usize) -> bool
-    requires { ⌜ (length (now toks) < 4294967296) × (length (now events) < 4294967296) ⌝ }
-    ensures { λ r. ⌜ r ≡ (eqb (tally W.failing (now (events .entry))) 0 && eqb taken (tally W.solid (now (toks .entry)))) ⌝ }
-{
-    let errors = count(events, failing());
-    let tokens = count(toks, solid());
-    (errors == 0) & (taken == tokens)
+    Band { from, to }
 }
 
 // A parser at the token with a raw number; at the text's end where that is the token count.
@@ -120,13 +72,13 @@ fn refusal(number: u32, place: usize) -> Verdict
     }
 }
 
-// What is found of the value of the association with a number, where a text was read and so many tokens are taken: 9 at the text's length
-// where it is not clean or has no such association, at the association's start where its first value is no constant; 10; or the value.
-fn judge(text: &[u8], toks: &[u32], events: &[u32], taken: usize, number: usize) -> Verdict
-    requires { ⌜ ((limits : Limits) × Was-read limits (now text) (now toks) (now events) taken) ⌝ }
-    ensures { λ r. ⌜ ((limits : Limits) → Was-read limits (now (text .entry)) (now (toks .entry)) (now (events .entry)) taken → Judged limits (now (text .entry)) number r) ⌝ }
+// What is found of the value of the association with a number, where a text was read, cleanly or not: 9 at the text's length where it is
+// not clean or has no such association, at the association's start where its first value is no constant; 10; or the value.
+fn judge(text: &[u8], toks: &[u32], events: &[u32], clean: bool, number: usize) -> Verdict
+    requires { ⌜ ((limits : Limits) × Was-read limits (now text) (now toks) (now events) clean) ⌝ }
+    ensures { λ r. ⌜ ((limits : Limits) → Was-read limits (now (text .entry)) (now (toks .entry)) (now (events .entry)) clean → Judged limits (now (text .entry)) number r) ⌝ }
 {
-    if !clean(toks, events, taken) {
+    if !clean {
         return refusal(9, text.len());
     }
     let at = find(events, starting(), number);
@@ -172,11 +124,12 @@ pub fn association_value_within(
             value: 0,
         };
     }
+    let clean = is_clean(a, tokens, events);
     let v = judge(
         src,
         &tokens[..a.tokens],
         &events[..a.events * EVENT_WORDS],
-        a.taken,
+        clean,
         number,
     );
     if v.number != 0 {

@@ -17,6 +17,7 @@ use parser::stop;
 use syntax_kind::PROPERTIES_KW;
 use syntax_kind::is_trivia;
 ghost use mathlib.Core.Path.{_≡_};
+ghost use mathlib.Core.Bool.{cond};
 ghost use Prim.Native.Nat.{_<_};
 ghost use lib.ListN.{length, take};
 ghost use Rattle.predictive.specs.Events.{erring, any-fault};
@@ -77,22 +78,29 @@ pub fn property_section(src: &[u8], tokens: &mut [u32], events: &mut [u32]) -> A
     property_section_within(src, tokens, events, BASE)
 }
 
+// Both loops over words are without an exit, so that many words are gone over at once.
+
 // Whether an Error is among the events of the first words.
 fn any_error(events: &[u32], count: usize) -> bool
     ensures { λ r. ⌜ r ≡ erring any-fault (events-in count (now (events .entry))) ⌝ }
 {
     let told = events_told(events);
+    let mut found = false;
     let mut i = 0;
-    while i < count {
-        if told <= i {
-            return false;
-        }
-        if 3 <= class_in(first_word(events, i)) {
-            return true;
-        }
+    while (i < count) & (i < told) {
+        found = found | (3 <= class_in(first_word(events, i)));
         i += 1;
     }
-    false
+    found
+}
+
+fn one_unless(b: bool) -> usize
+    ensures { λ r. ⌜ r ≡ cond b 0 1 ⌝ }
+{
+    if b {
+        return 0;
+    }
+    1
 }
 
 // How many of the first words are no trivia's.
@@ -101,13 +109,8 @@ fn solid_words(tokens: &[u32], count: usize) -> usize
 {
     let mut n = 0;
     let mut i = 0;
-    while i < count {
-        if tokens.len() <= i {
-            return n;
-        }
-        if !is_trivia(kind_in(tokens[i])) {
-            n += 1;
-        }
+    while (i < count) & (i < tokens.len()) {
+        n += one_unless(is_trivia(kind_in(tokens[i])));
         i += 1;
     }
     n
