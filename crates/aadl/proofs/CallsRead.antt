@@ -9,7 +9,7 @@ use lib.ListN.{length, getD, take, drop, length-map, length-take}
 use lib.Seq.{take-at}
 use Rattle.aadl.specs.declared.Answer.{Answer}
 use Rattle.aadl.specs.Limits.{Limits, Allowed}
-use Rattle.aadl.specs.Tokens.{tokens, token-word}
+use Rattle.aadl.specs.Tokens.{tokens, token-word, Strings-closed}
 use Rattle.aadl.specs.Symbols.{symbols, raw-number}
 use Rattle.aadl.specs.WordKinds.{Words-told}
 use Rattle.aadl.specs.NumberParts.{Numbers-told}
@@ -19,7 +19,7 @@ use Rattle.aadl.specs.Answers.{section-checks, all-answered, tokens-answ
 use Rattle.aadl.specs.Calls.{Form, plain, lent, Call, number-of, left, Did, filled, Extension, extending, tokens-call, reading-events, section-call, Answered-whole, Settled}
 use Rattle.aadl.specs.EventTokens.{Tokens-known}
 use Rattle.aadl.specs.Demand.{answered-events, Read-as-derived}
-use Rattle.aadl.specs.Contracts.{Tokens-called, Section-called}
+use Rattle.aadl.specs.Contracts.{Tokens-called, Section-called, Read-whole}
 use Rattle.aadl.proofs.Settled.{Sound, settled, whole}
 use Rattle.aadl.proofs.Extending.{first's}
 use Rattle.aadl.proofs.EventPairs.{length-words-of}
@@ -27,7 +27,7 @@ use Rattle.aadl.proofs.AnswerDerived.{Answered, answered-whole, told, a
 use Rattle.aadl.proofs.EventTokens.{tokens-known}
 use Rattle.aadl.proofs.TokenText.{Tokens-read, text-read, read-told}
 use Rattle.aadl.proofs.WordTokens.{words-told}
-use Rattle.aadl.proofs.StringTokens.{Strings-closed, strings-closed}
+use Rattle.aadl.proofs.StringTokens.{strings-closed}
 use Rattle.aadl.proofs.NumberTokens.{numbers-told}
 
 -- Of the exits of a call, the one with a number.
@@ -88,14 +88,6 @@ tokens's x adds limits text old sound d z = tokens-promised limits text old (fir
 pub section-sound : (limits : Limits) (text old last : List ℕ) → Sound (section-call limits text old last)
 unfolding section-call tokens-call
 section-sound limits text old last = (refl, refl)
-
--- What an answer that refuses nothing tells of a text, with the token and event words that were left.
-pub record Read-whole (text : List ℕ) (a : Answer) (ts es : List ℕ) : Type 0 where
-  pub derived : Read-as-derived text a es
-  pub words : Words-told text (a .tokens) ts
-  pub strings : Strings-closed text (a .tokens) ts
-  pub numbers : Numbers-told text (a .tokens) ts
-  pub named : Tokens-known text a ts es
 
 module _ (limits : Limits) (text old last : List ℕ) {a : Answer} {ts es : List ℕ} (d : Did (section-call limits text old last) a (ts ∷ es ∷ [])) where
   answered-by : a ≡ section-answer limits text (length old) (length last)

@@ -8,7 +8,7 @@ use lib.ListN.{length, getD, take, drop, take-append-drop}
 use lib.Seq.{length-take-le}
 use Rattle.aadl.specs.declared.Token.{Token}
 use Rattle.aadl.specs.Kinds.{STRING-LIT, #_}
-use Rattle.aadl.specs.Tokens.{token, token-of, tokens, unclosed, kind-in, from-token, token-text}
+use Rattle.aadl.specs.Tokens.{token, token-of, tokens, unclosed, from-token, Strings-closed}
 use Rattle.aadl.specs.Symbols.{is-trivia}
 use Rattle.aadl.specs.Answers.{token-words}
 use Rattle.aadl.proofs.Lists.{each-at}
@@ -31,11 +31,6 @@ string-alone bs some kind closed =
     ∙ token-again w r [] (ap (λ (t : Token). t .len) same ∙ sym long) (ap (λ (t : Token). is-trivia (t .kind)) same ∙ ap is-trivia kind)
     (λ e. ap (λ (t : Token). t .closed) same ∙ closed) nothing-separates
     ∙ same ∙ (λ i. record { kind = kind i; len = sym long i; closed = closed i })
-
--- Of words ts whose first n are the token words of a text: the text of each token that is a string, read by itself, is one string that is
--- closed, and nothing behind it.
-abbrev pub Strings-closed : (text : List ℕ) (n : ℕ) (ts : List ℕ) → Type 0
-Strings-closed text n ts = (i : ℕ) → i < n → kind-in (getD ts i 0) ≡ # STRING-LIT → token-of (token-text text ts i) ≡ token (# STRING-LIT) (length (token-text text ts i))
 
 pub strings-closed : (text : List ℕ) → unclosed (tokens text) ≡ length text → (rest : List ℕ) → length text < 65536 →
     Strings-closed text (length (tokens text)) (token-words text ++ rest)

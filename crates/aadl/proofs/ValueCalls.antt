@@ -8,23 +8,24 @@ use mathlib.Core.Option.{Option, none, some}
 use lib.ListN.{length, length-replicate}
 use lib.Dec.{leb, eqb}
 use lib.IntN.{ℤ}
-use borrow.Author.Tests.{not-true, not-false, eqb-true}
+use borrow.Author.Tests.{eq-eqb, not-true, not-false, eqb-true}
 use Rattle.predictive.specs.Forest.{Forest}
 use Rattle.predictive.specs.Events.{taken, erring, any-fault}
 use Rattle.predictive.proofs.Tests.{never, and-l, and-r, or-l}
 use Rattle.aadl.specs.declared.Answer.{Answer}
 use Rattle.aadl.specs.declared.ValueAnswer.{ValueAnswer}
 use Rattle.aadl.specs.Limits.{Limits}
-use Rattle.aadl.specs.Symbols.{symbols, start-of}
-use Rattle.aadl.specs.Reading.{events, Clean, reads-cleanly}
+use Rattle.aadl.specs.Symbols.{symbols, kinds, start-of}
+use Rattle.aadl.specs.Reading.{events, Clean, reads-cleanly, Derivation}
 use Rattle.aadl.specs.Answers.{checked, left-in, token-words, event-words}
-use Rattle.aadl.specs.Calls.{Did, section-call, tokens-call, Each, Fails, Settled}
-use Rattle.aadl.specs.Values.{Constant, Outcome, exact, beyond, value, Association, associations-in, nth-association, outcome-of, is-none, is-beyond, exact-value, text-associations, value-checks, with-value, value-refused, value-answer, valuing, value-call, Valued}
+use Rattle.aadl.specs.Calls.{lent, answer-of, left, Did, section-call, tokens-call, Each, Fails, Settled}
+use Rattle.aadl.specs.Values.{Constant, Outcome, exact, beyond, value, Association}
+use Rattle.aadl.specs.ValueCall.{associations-in, nth-association, outcome-of, is-none, is-beyond, exact-value, text-associations, value-checks, with-value, value-refused, value-answer, valuing, value-call, Valued, valued-by}
 use Rattle.aadl.specs.Contracts.{Section-called, Value-called}
 use Rattle.aadl.proofs.Demand3.{demand-3}
 use Rattle.aadl.proofs.Settled.{Sound, settled, whole}
-use Rattle.aadl.proofs.Extending.{own-fail}
-use Rattle.aadl.proofs.CallsRead.{exit-at, section's, all-passed}
+use Rattle.aadl.proofs.Extending.{by-own, own-fail}
+use Rattle.aadl.proofs.CallsRead.{exit-at, section-sound, section-promised, section's, all-passed}
 
 -- BY ITS OWN CHECKS ----------------------------------------------------------------------------------------------------
 
@@ -72,6 +73,10 @@ clean-by-test limits xs c =
     let count = taken (events limits xs) in
     record { no-error = not-true errs (and-l (not errs) _ c); all-taken = eqb-true count (length xs) (and-r (not errs) (eqb count (length xs)) c) }
 
+pub test-of-clean : (limits : Limits) (xs : List ℕ) → Clean limits xs → reads-cleanly limits xs ≡ true
+unfolding reads-cleanly
+test-of-clean limits xs c = rw (c .no-error, eq-eqb (taken (events limits xs)) (length xs) (c .all-taken)) refl
+
 -- THE CALL -------------------------------------------------------------------------------------------------------------
 
 pub value-sound : (limits : Limits) (text old last : List ℕ) (k : ℕ) → Sound (value-call limits text old last k)
@@ -109,9 +114,26 @@ module _ (limits : Limits) (text old last : List ℕ) (k : ℕ) {a : ValueAnswer
           exactly = ap outcome-of (sym (c .1)) ∙ v ∙ ap exact (sym counts);
         }
 
+  -- What the section call answers, and the words that it leaves.
+  abbrev first : Answer
+  first = answer-of (section-call limits text old last)
+
+  first-did : Section-called limits text old last first (left (first .number) (lent old (token-words text))) (left (first .number) (lent last (event-words limits text)))
+  unfolding section-call tokens-call
+  first-did = section-promised limits text old last (record { answer = refl; exit = refl })
+
+  -- Where it refuses nothing, a derivation is the tree that is read, and the text is read cleanly: so the value call's own checks are the
+  -- derivation's.
+  decided : (t : Forest) → Derivation (kinds text) t → first .number ≡ 0 → a ≡ valued-by text t k first
+  unfolding value-call text-associations
+  decided t u z =
+      let e = demand-3 limits text (all-passed first-did z .deep) in
+      let clean : reads-cleanly limits (symbols text) ≡ true = test-of-clean limits (symbols text) (e .exactly .1 (t, u)) in
+      d .answer ∙ by-own (section-sound limits text old last) (valuing limits text k) (first-did .did) z ∙ rw (clean, e .spelled t u) refl
+
   -- So the call keeps its promise.
   pub value-promised : Value-called limits text old last k a ts es
-  value-promised = record { did = d; derived = λ z. section-by z .derived z; valued = valued }
+  value-promised = record { did = d; derived = λ z. section-by z .derived z; valued = valued; decided = decided }
 
 module _ {limits : Limits} {text old last : List ℕ} {k : ℕ} {a : ValueAnswer} {ts es : List ℕ} (c : Value-called limits text old last k a ts es) where
   pub value-answered : a ≡ value-answer limits text (length old) (length last) k

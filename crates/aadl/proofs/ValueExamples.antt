@@ -10,7 +10,8 @@ use Rattle.aadl.specs.Limits.{base}
 use Rattle.aadl.specs.Words.{bytes}
 use Rattle.aadl.specs.Reading.{reads-cleanly}
 use Rattle.aadl.specs.Answers.{answered}
-use Rattle.aadl.specs.Values.{digits, number-by, all-below, literal-number, number-at, value, children, associations, associations-in, text-associations, with-value, value-refused, value-call, value-answer}
+use Rattle.aadl.specs.Values.{digits, number-by, all-below, literal-number, number-at, value, children, associations}
+use Rattle.aadl.specs.ValueCall.{associations-in, text-associations, with-value, value-refused, value-call, value-answer}
 use Rattle.aadl.specs.Calls.{tokens-call, section-call}
 use Rattle.aadl.proofs.Computing.{definitions}
 

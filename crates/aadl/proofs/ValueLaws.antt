@@ -12,7 +12,8 @@ use Rattle.aadl.specs.Limits.{Limits}
 use Rattle.aadl.specs.Bytes.{within, is-digit}
 use Rattle.aadl.specs.Symbols.{symbols}
 use Rattle.aadl.specs.Reading.{events}
-use Rattle.aadl.specs.Values.{digit-of, digits, number-by, number-at, associations, associations-in, text-associations}
+use Rattle.aadl.specs.Values.{digit-of, digits, number-by, number-at, associations}
+use Rattle.aadl.specs.ValueCall.{associations-in, text-associations}
 use Rattle.aadl.proofs.Bools.{bounds, false-unless, within-bounds}
 
 -- An underscore anywhere changes no digits.

@@ -4,15 +4,21 @@
 use Prim.Native.Nat.{ℕ}
 use mathlib.Core.Path.{_≡_}
 use mathlib.Core.List.{List, [], _∷_}
+use Rattle.predictive.specs.Forest.{Forest}
 use Rattle.aadl.specs.declared.Answer.{Answer}
 use Rattle.aadl.specs.declared.TreeAnswer.{TreeAnswer}
 use Rattle.aadl.specs.declared.ValueAnswer.{ValueAnswer}
 use Rattle.aadl.specs.Limits.{Limits}
+use Rattle.aadl.specs.Tokens.{Strings-closed}
 use Rattle.aadl.specs.WordKinds.{Words-told}
-use Rattle.aadl.specs.Calls.{Did, tokens-call, section-call}
+use Rattle.aadl.specs.NumberParts.{Numbers-told}
+use Rattle.aadl.specs.Symbols.{kinds}
+use Rattle.aadl.specs.Reading.{Derivation}
+use Rattle.aadl.specs.Calls.{answer-of, Did, tokens-call, section-call}
 use Rattle.aadl.specs.Demand.{Read-as-derived}
+use Rattle.aadl.specs.EventTokens.{Tokens-known}
 use Rattle.aadl.specs.Records.{tree-call, Recorded}
-use Rattle.aadl.specs.Values.{value-call, Valued}
+use Rattle.aadl.specs.ValueCall.{value-call, Valued, valued-by}
 
 pub record Tokens-called (limits : Limits) (text tokens : List ℕ) (a : Answer) (tokens-left : List ℕ) : Type 0 where
   pub did : Did (tokens-call limits text tokens) a (tokens-left ∷ [])
@@ -31,3 +37,14 @@ pub record Value-called (limits : Limits) (text tokens events : List ℕ) (numbe
   pub did : Did (value-call limits text tokens events number) a (tokens-left ∷ events-left ∷ [])
   pub derived : a .answer .number ≡ 0 → Read-as-derived text (a .answer) events-left
   pub valued : a .answer .number ≡ 0 → Valued text number a
+  -- where the section call refuses nothing, every derivation of the text decides: no such association, no constant, beyond the range, or the value
+  pub decided : (t : Forest) → Derivation (kinds text) t → let first = answer-of (section-call limits text tokens events) in first .number ≡ 0 → a ≡ valued-by text t number first
+
+-- What follows where nothing is refused, of the section call and of every call that goes on from it: it is read as derived, its words, strings
+-- and numbers are told, and each event knows its token.
+pub record Read-whole (text : List ℕ) (a : Answer) (tokens-left events-left : List ℕ) : Type 0 where
+  pub derived : Read-as-derived text a events-left
+  pub words : Words-told text (a .tokens) tokens-left
+  pub strings : Strings-closed text (a .tokens) tokens-left
+  pub numbers : Numbers-told text (a .tokens) tokens-left
+  pub named : Tokens-known text a tokens-left events-left

@@ -16,5 +16,6 @@ pub mod Demand
 pub mod Records
 pub mod EventTokens
 pub mod Values
+pub mod ValueCall
 pub mod Contracts
 pub mod Listing

@@ -1,5 +1,6 @@
 -- 01's 'The token word': every case of a token, defined on the bytes from the token's start on. Assumes nothing.
-use Prim.Native.Nat.{ℕ, zero, suc, _+_, _-_, _*_, _/_, _%_, max}
+use Prim.Native.Nat.{ℕ, zero, suc, _+_, _-_, _*_, _/_, _%_, max, _<_}
+use mathlib.Core.Path.{_≡_}
 use Prim.Native.String.{String}
 use mathlib.Core.Bool.{Bool, true, false, not, _&&_, _||_, cond}
 use mathlib.Core.List.{List, [], _∷_}
@@ -197,3 +198,8 @@ token-text text words i =
     let begin = total (take i words) in
     let len = length-in (getD words i 0) in
     cond (ltb i (length words) && leb (begin + len) (length text)) (take len (from-token text words i)) []
+
+-- 02's request Four, of words ts whose first n are the token words of a text: the text of each token that is a string, read by itself, is one
+-- string that is closed, and nothing after it.
+abbrev pub Strings-closed : (text : List ℕ) (n : ℕ) (ts : List ℕ) → Type 0
+Strings-closed text n ts = (i : ℕ) → i < n → kind-in (getD ts i 0) ≡ # STRING-LIT → token-of (token-text text ts i) ≡ token (# STRING-LIT) (length (token-text text ts i))

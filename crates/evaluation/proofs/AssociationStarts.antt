@@ -23,7 +23,8 @@ use Rattle.aadl.specs.Symbols.{shown, symbols}
 use Rattle.aadl.specs.Section.{Rule, Expression, Negated, Operand, Classifier, rules, grammar, literal-association, literal-section}
 use Rattle.aadl.specs.Reading.{Derivation, reads-cleanly, too-deep}
 use Rattle.aadl.specs.Reading
-use Rattle.aadl.specs.Values.{Association, associations, associations-in, number-at, text-associations}
+use Rattle.aadl.specs.Values.{Association, associations, number-at}
+use Rattle.aadl.specs.ValueCall.{associations-in, text-associations}
 use Rattle.aadl.proofs.Lists.{Each}
 use Rattle.aadl.proofs.Literal.{read-is-literal}
 use Rattle.aadl.proofs.Demand3.{clean-exactly, spelled-derivation, derived-events, from-symbols}

@@ -14,7 +14,7 @@ use Rattle.aadl.specs.declared.Limits.{Limits}
 use Rattle.aadl.specs.Limits.{Allowed}
 use Rattle.aadl.specs.Encoding.{words-for}
 use Rattle.aadl.specs.Calls.{tokens-call, section-call}
-use Rattle.aadl.specs.Values.{with-value, value-refused, valuing, value-call}
+use Rattle.aadl.specs.ValueCall.{with-value, value-refused, valuing, value-call}
 use Rattle.aadl.specs.Demand.{is-clean}
 use Rattle.aadl.specs.Contracts.{Section-called, Value-called}
 use Rattle.aadl.proofs.Extending.{did-same, on-refused, own-refuses, none-refuses}

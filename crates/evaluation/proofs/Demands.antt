@@ -8,9 +8,9 @@ use Rattle.aadl.specs.declared.ValueAnswer.{ValueAnswer}
 use Rattle.aadl.specs.declared.Limits.{Limits}
 use Rattle.aadl.specs.Limits.{Allowed}
 use Rattle.aadl.specs.Calls.{Settled}
-use Rattle.aadl.specs.Values.{value-call}
-use Rattle.aadl.specs.Contracts.{Value-called}
-use Rattle.aadl.proofs.CallsRead.{Read-whole, section-read}
+use Rattle.aadl.specs.ValueCall.{value-call}
+use Rattle.aadl.specs.Contracts.{Value-called, Read-whole}
+use Rattle.aadl.proofs.CallsRead.{section-read}
 use Rattle.aadl.proofs.ValueCalls.{value-settled, value-section's}
 
 module _ {limits : Limits} {text old last : List ℕ} {k : ℕ} {a : ValueAnswer} {ts es : List ℕ} (c : Value-called limits text old last k a ts es) where

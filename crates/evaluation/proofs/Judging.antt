@@ -18,7 +18,8 @@ use Rattle.aadl.specs.Tokens.{tokens, token-word}
 use Rattle.aadl.specs.Symbols.{symbols, start-of, raw-number}
 use Rattle.aadl.specs.Encoding.{event-word, event-in, words-for, words-of}
 use Rattle.aadl.specs.Reading.{events, reads-cleanly}
-use Rattle.aadl.specs.Values.{Constant, Outcome, exact, beyond, in-range, value, number-at, Association, association, nth-association, text-associations, with-value, value-refused}
+use Rattle.aadl.specs.Values.{Constant, Outcome, exact, beyond, in-range, value, number-at, Association, association}
+use Rattle.aadl.specs.ValueCall.{nth-association, text-associations, with-value, value-refused}
 use Rattle.aadl.proofs.Lists.{each-at}
 use Rattle.aadl.proofs.TokensCover.{tokens-within-text}
 use Rattle.aadl.proofs.RawNumbers.{raw-number-counted}

@@ -12,7 +12,7 @@ use Rattle.aadl.specs.Limits.{most-events}
 use Rattle.aadl.specs.Symbols.{symbols}
 use Rattle.aadl.specs.Reading.{events, too-deep, reads-cleanly}
 use Rattle.aadl.specs.Answers.{checked, token-words, event-words}
-use Rattle.aadl.specs.Values.{value-checks, with-value, value-refused, valuing}
+use Rattle.aadl.specs.ValueCall.{value-checks, with-value, value-refused, valuing}
 use Rattle.evaluation.specs.declared.Verdict.{Verdict}
 
 -- A text that was read, cleanly or not: the token words and the event words are its own.

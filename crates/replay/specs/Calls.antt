@@ -7,7 +7,7 @@ use lib.Dec.{eqb}
 use Rattle.aadl.specs.Limits.{base}
 use Rattle.aadl.specs.Answers.{tokens-answer, section-answer, token-words, event-words, left-in}
 use Rattle.aadl.specs.Records.{record-words, tree-answer}
-use Rattle.aadl.specs.Values.{value-answer}
+use Rattle.aadl.specs.ValueCall.{value-answer}
 use Rattle.aadl.specs.declared.Answer.{Answer}
 use Rattle.aadl.specs.Words.{bytes}
 use Rattle.aadl.specs.NumberParts.{number-parts, part-numbers}

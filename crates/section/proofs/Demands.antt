@@ -21,10 +21,10 @@ use Rattle.aadl.specs.Reading.{reads-cleanly}
 use Rattle.aadl.specs.Answers.{answered, section-answer, left-in, token-words, event-words}
 use Rattle.aadl.specs.Calls.{section-call, Settled}
 use Rattle.aadl.specs.Demand.{answered-events, Clean-answer, solid-words, is-clean, Read-as-derived}
-use Rattle.aadl.specs.Contracts.{Section-called}
+use Rattle.aadl.specs.Contracts.{Section-called, Read-whole}
 use Rattle.aadl.proofs.SymbolLaws.{symbols-show-kinds}
 use Rattle.aadl.proofs.EventPairs.{length-first-words}
-use Rattle.aadl.proofs.CallsRead.{Read-whole, section-answered, tokens-left, events-left, section-settled, section-read}
+use Rattle.aadl.proofs.CallsRead.{section-answered, tokens-left, events-left, section-settled, section-read}
 use Rattle.section.proofs.CleanLaws.{solid-kinds}
 use Rattle.section.proofs.Unrefused.{all-counted, events-told, passed-short, token-words-counted, tokens-fit, events-fit}
 

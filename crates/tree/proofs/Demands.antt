@@ -18,8 +18,8 @@ use Rattle.aadl.specs.Symbols.{kinds}
 use Rattle.aadl.specs.Calls.{Settled}
 use Rattle.aadl.specs.Demand.{answered-events}
 use Rattle.aadl.specs.Records.{Record, records-in, text-records, tree-call, answered-records}
-use Rattle.aadl.specs.Contracts.{Tree-called}
-use Rattle.aadl.proofs.CallsRead.{Read-whole, section-read, all-counted, events-told}
+use Rattle.aadl.specs.Contracts.{Tree-called, Read-whole}
+use Rattle.aadl.proofs.CallsRead.{section-read, all-counted, events-told}
 use Rattle.aadl.proofs.TreeCalls.{tree-settled, tree-section's, records-told}
 use Rattle.aadl.proofs.RecordsUpwards.{Upwards, record-at, insides, text-upwards, text-run}
 

@@ -11,7 +11,7 @@ use mir.ValLaws.{toZ-ofZ}
 use borrow.Author.Needs.{needs}
 use Rattle.aadl.specs.declared.Answer.{Answer}
 use Rattle.aadl.specs.Encoding.{words-for}
-use Rattle.aadl.specs.Values.{with-value}
+use Rattle.aadl.specs.ValueCall.{with-value}
 use Rattle.aadl.specs.Contracts.{Value-called}
 use Rattle.section.proofs.Unrefused.{all-passed, all-counted, tokens-fit, events-fit}
 use Rattle.evaluation.specs.Verdicts.{Was-read}

@@ -12,7 +12,7 @@ use borrow.Author.Needs.{needs}
 use borrow.Author.Tests.{not-true, not-false}
 use Rattle.aadl.specs.declared.Limits.{Limits}
 use Rattle.aadl.specs.Symbols.{raw-number}
-use Rattle.aadl.specs.Values.{nth-association, text-associations}
+use Rattle.aadl.specs.ValueCall.{nth-association, text-associations}
 use Rattle.counting.specs.declared.Band.{Band}
 use Rattle.counting.specs.Bands.{nth-within}
 use Rattle.section.specs.Standing.{Passed}

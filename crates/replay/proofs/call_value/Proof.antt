@@ -5,7 +5,7 @@ use mathlib.Core.List.{List}
 use lib.ListN.{length, replicate}
 use Rattle.aadl.specs.Limits.{base}
 use Rattle.aadl.specs.Answers.{token-words, event-words, left-in}
-use Rattle.aadl.specs.Values.{value-answer}
+use Rattle.aadl.specs.ValueCall.{value-answer}
 use Rattle.aadl.specs.declared.ValueAnswer.{ValueAnswer}
 use Rattle.aadl.proofs.ValueCalls.{value-answered, value-left}
 use Rattle.writing.proofs.WriteLaws.{wrote-same}
