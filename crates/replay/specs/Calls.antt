@@ -1,8 +1,10 @@
 -- What a record's call answers, and the lines that are written for it. Assumes nothing.
-use Prim.Native.Nat.{ℕ}
-use mathlib.Core.Bool.{Bool, cond}
+use Prim.Native.Nat.{ℕ, _+_, _<_}
+use mathlib.Core.Path.{_≡_}
+use mathlib.Core.Bool.{Bool, true, cond}
 use mathlib.Core.List.{List, []}
-use lib.ListN.{replicate}
+use lib.ListN.{length, take, replicate}
+use lib.Seq.{sets}
 use lib.Dec.{eqb}
 use Rattle.aadl.specs.Limits.{base}
 use Rattle.aadl.specs.Answers.{tokens-answer, section-answer, token-words, event-words, left-in}
@@ -13,7 +15,8 @@ use Rattle.aadl.specs.Words.{bytes}
 use Rattle.aadl.specs.NumberParts.{number-parts, part-numbers}
 use Rattle.records.specs.Records.{old-word, line, record-lines, tree-lines, value-lines}
 use Rattle.replay.specs.declared.Head.{Head}
-use Rattle.replay.specs.Heads.{tree, parts, value}
+use Rattle.replay.specs.declared.Step.{Step}
+use Rattle.replay.specs.Heads.{tree, parts, value, lent-records}
 
 abbrev pub answer-of : (only : Bool) → (text : List ℕ) → (tokens events : ℕ) → Answer
 answer-of only text m n = cond only (tokens-answer base text m) (section-answer base text m n)
@@ -58,3 +61,10 @@ made h text m n k =
     (cond (eqb (h .call) parts) (parts-called text m (h .own))
     (cond (eqb (h .call) value) (value-called text m n (h .own))
     (called (h .only) text m n)))
+
+-- Where another record may follow, the lines of the call that a record asks for stand whole in the bytes that wait, from a place on; and what stood before
+-- is kept.
+pub record Stands-whole (h : Head) (text old : List ℕ) (at : ℕ) (new : List ℕ) (r : Step) : Type 0 where
+  pub whole : r .on ≡ true →
+      let lines = made h (take (h .text) text) (h .tokens) (h .events) (lent-records h) in
+      (r .at ≡ at + length lines) × (r .at < length old) × (new ≡ sets old at lines)

@@ -19,7 +19,7 @@ ghost use lib.ListN.{length, replicate};
 ghost use Rattle.aadl.specs.Words.{bytes};
 ghost use Rattle.writing.specs.Written.{Wrote};
 ghost use Rattle.aadl.specs.Answers.{token-words, left-in};
-ghost use Rattle.replay.specs.Calls.{answer-of, events-left, called, tree-called, parts-called, value-called, made};
+ghost use Rattle.replay.specs.Calls.{answer-of, events-left, called, tree-called, parts-called, value-called, made, Stands-whole};
 ghost use Rattle.replay.specs.Heads.{number-at, head-from, extended, known, record-head, lent-records};
 
 // How many bytes and token words the longest record has; how many event words, two for an event; and how many record words, four for a record.
@@ -29,8 +29,9 @@ const EVENTS: usize = 80000;
 
 const RECORDS: usize = 160000;
 
-// How many bytes wait to be written at the most, and how many a record's lines take at the most: 11 for each word, and some for names and numbers. A record has
-// 40,000 token words at the most, 65,536 event words, two for each of 32,768 events, and 65,536 record words, since each node has two events.
+// How many bytes wait to be written at the most, and with how many left they are written out: 11 for each word, and some for names and numbers. A record has
+// 40,000 token words at the most, 65,536 event words, two for each of 32,768 events, and 65,536 record words, since each node has two events. Nothing rests on
+// that: lines that had no room would be a bad record (`lend`).
 const OUT: usize = 1984832;
 
 const LINES: usize = 1882192;
@@ -246,7 +247,7 @@ fn lent_records(h: Head) -> usize
     0
 }
 
-// Lends what a record asks for, if there is as much.
+// Lends what a record asks for, if there is as much. Another record may follow only where its lines stand whole.
 fn lend(
     text: &[u8],
     tokens: &mut [u32],
@@ -255,7 +256,9 @@ fn lend(
     h: Head,
     out: &mut [u8],
     at: usize,
-) -> Step {
+) -> Step
+    ensures { λ r. ⌜ Stands-whole h (now (text .entry)) (now (out .entry)) at (now (out .exit)) r ⌝ }
+{
     let n = h.text;
     let t = h.tokens;
     let e = h.events;
@@ -272,6 +275,9 @@ fn lend(
         out,
         at,
     );
+    if out.len() <= next {
+        return bad(out, at);
+    }
     Step { at: next, on: true }
 }
 
