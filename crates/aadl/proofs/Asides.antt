@@ -1,36 +1,27 @@
--- 01's asides on messages, as laws of the reading: 3 is "never met here", for where an association is begun its name stands, and so its
--- message makes no difference; and "a keyword followed by COLON starts an association too, always with message 1", for COLON is no arrow.
--- Assumes nothing.
-use Prim.Native.Nat.{ℕ, suc}
+-- 01's aside on message 1, as a law of the reading: "a keyword followed by COLON starts an association too, always with message 1", for
+-- COLON is no arrow. Assumes nothing.
+use Prim.Native.Nat.{ℕ}
 use mathlib.Core.Path.{_≡_, refl, sym, ap, _∙_}
 use mathlib.Core.Bool.{Bool, true, false}
-use mathlib.Core.List.{List, [], _∷_, _++_, append-nil}
-use lib.ListN.{length}
+use mathlib.Core.List.{List, [], _∷_, _++_}
 use lib.Dec.{eqb}
 use Rattle.predictive.specs.Forest.{Fault, message, refusal, leaf, nil, node, err}
-use Rattle.predictive.specs.Grammar.{Head, one, at, has, Part, either, unless, many}
+use Rattle.predictive.specs.Grammar.{at, has, Part}
 use Rattle.predictive.specs.Notation.{_·_, maybe}
 use Rattle.predictive.specs.Reader.{Result, done, after, beside, ones, twos, null, first, take-any, take-one, take-look, step, below, read}
 use Rattle.predictive.specs.Events.{events-of, erring}
-use Rattle.predictive.proofs.Tests.{never, or-true-r, _and_}
+use Rattle.predictive.proofs.Tests.{never, or-true-r}
 use Rattle.predictive.proofs.Heads.{in-l, at-end, at-twos}
 use Rattle.predictive.proofs.Takes.{at-twos-both}
 use Rattle.predictive.proofs.Faults.{faulty, amiss, amiss-after, amiss-beside, keeps-then, keeps-node}
-use Rattle.predictive.proofs.Bounds.{form-fits, forms-fit, part-fits, any-kind, but, reading-free}
-use Rattle.predictive.proofs.Replaced.{Same, same-inside, same-former, same-latter, same-second, same-many}
 use Rattle.predictive.proofs.EventLaws.{erring-reading}
-use Rattle.aadl.specs.Limits.{Limits}
-use Rattle.aadl.specs.Kinds.{#_, COLON, COLON-COLON, IDENT, SEMICOLON, NONE-KW, PROPERTIES-KW, PROPERTY-SECTION, PROPERTY-ASSOCIATION, PROPERTY-REF}
+use Rattle.aadl.specs.Kinds.{#_, COLON, COLON-COLON, IDENT, PROPERTY-ASSOCIATION, PROPERTY-REF}
 use Rattle.aadl.specs.Symbols.{shown}
-use Rattle.aadl.specs.Section.{Rule, rules, Expression, Negated, Operand, Classifier, keywords, names, token, property-name, property-ref, arrow, association-rest, association, read-association, grammar, section}
-use Rattle.aadl.specs.Section as S
-use Rattle.aadl.specs.Reading.{reading, events}
+use Rattle.aadl.specs.Section.{Rule, keywords, begun, property-name, property-ref, arrow, association-rest, read-association, grammar}
 
 abbrev pub is-message : ℕ → Fault → Bool
 is-message m (message n) = eqb n m
 is-message m (refusal n) = false
-
--- MESSAGE 3 ------------------------------------------------------------------------------------------------------------
 
 module _ (bound d : ℕ) (inner : Rule → List ℕ → Result) where
   -- A name that stands is taken as any token is.
@@ -42,52 +33,6 @@ module _ (bound d : ℕ) (inner : Rule → List ℕ → Result) where
       go : (t : Bool) → eqb x (# IDENT) ≡ t → step grammar bound d inner (property-name m) (x ∷ xs) ≡ take-any shown (x ∷ xs)
       go true q = rw q refl
       go false q = rw (q, at-twos-both keywords (# COLON) x xs (rw q at e)) refl
-
-  -- message 2 in the place of 3
-  association-same : (xs : List ℕ) → at (first grammar read-association) xs ≡ true → Same grammar bound d inner read-association (association (property-name 2) (property-name 2)) xs
-  unfolding first null
-  association-same xs e =
-      let hs = first grammar (property-name 3) in
-      let h : at hs xs ≡ true = sym (ap (λ (l : List Head). at l xs) (append-nil (hs ++ []) ∙ append-nil hs)) ∙ e in
-      same-inside grammar bound d inner _ _ (# PROPERTY-ASSOCIATION) xs
-      (same-former grammar bound d inner _ _ association-rest xs
-      (same-inside grammar bound d inner _ _ (# PROPERTY-REF) xs
-      (same-former grammar bound d inner _ _ _ xs (name-stands 3 xs h ∙ sym (name-stands 2 xs h)))))
-
--- the section with message 2 in the place of 3
-abbrev without-3 : Part Rule
-without-3 =
-    S.node PROPERTY-SECTION
-    (token PROPERTIES-KW
-    · either (unless (one (# NONE-KW) ∷ [])) (token NONE-KW · token SEMICOLON) (many (association (property-name 2) (property-name 2))))
-
-section-same : (bound d : ℕ) (inner : Rule → List ℕ → Result) (xs : List ℕ) → Same grammar bound d inner section without-3 xs
-unfolding first
-section-same bound d inner xs =
-    same-inside grammar bound d inner _ _ (# PROPERTY-SECTION) xs
-    (same-latter grammar bound d inner _ _ (token PROPERTIES-KW) xs
-    (λ ys. same-second grammar bound d inner _ _ (unless (one (# NONE-KW) ∷ [])) (token NONE-KW · token SEMICOLON) ys
-    (same-many grammar bound d inner read-association _ refl (association-same bound d inner) ys)))
-
-rules-fit : (r : Rule) → part-fits any-kind (but (is-message 3)) (rules r) ≡ true
-unfolding part-fits form-fits forms-fit _and_ names keywords
-rules-fit = elim [ Expression ↦ refl | Negated ↦ refl | Operand ↦ refl | Classifier ↦ refl ]
-
-without-3-fits : part-fits any-kind (but (is-message 3)) without-3 ≡ true
-unfolding part-fits form-fits forms-fit _and_ names keywords
-without-3-fits = refl
-
--- Message 3 is never met.
-pub never-message-3 : (limits : Limits) (xs : List ℕ) → erring (is-message 3) (events limits xs) ≡ false
-unfolding events reading read
-never-message-3 limits xs =
-    let n = suc (length xs) in
-    let d = limits .openers in
-    erring-reading (is-message 3) (reading limits xs)
-    ∙ ap (amiss (is-message 3)) (section-same n d (below grammar n d) xs)
-    ∙ reading-free (is-message 3) grammar n refl rules-fit d without-3 without-3-fits xs
-
--- MESSAGE 1 ------------------------------------------------------------------------------------------------------------
 
 module _ (k : ℕ) (xs : List ℕ) (h : has keywords k ≡ true) where
   name-at : at (first grammar (property-name 3)) (k ∷ # COLON ∷ xs) ≡ true
@@ -106,7 +51,7 @@ module _ (k : ℕ) (xs : List ℕ) (h : has keywords k ≡ true) where
         ≡ done (node (# PROPERTY-REF) (leaf (shown k) nil) nil) (# COLON ∷ xs)
     unfolding step first ones null take-any
     ref-read =
-        ap (λ (r : Result). after (after r (λ f ys. beside f (step grammar bound d inner (maybe (token COLON-COLON · property-name 2)) ys))) (λ f ys. done (node (# PROPERTY-REF) f nil) ys))
+        ap (λ (r : Result). after (after r (λ f ys. beside f (step grammar bound d inner (maybe (begun COLON-COLON · property-name 2)) ys))) (λ f ys. done (node (# PROPERTY-REF) f nil) ys))
         (name-stands bound d inner 3 (k ∷ # COLON ∷ xs) name-at)
 
     no-arrow : (o : Part Rule) → amiss (is-message 1) (step grammar bound d inner (arrow · o) (# COLON ∷ xs)) ≡ true

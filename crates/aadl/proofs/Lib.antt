@@ -50,5 +50,6 @@ pub mod StringTokens
 pub mod NumberLaws
 pub mod NumberTokens
 pub mod CallsRead
+pub mod NeverMissed
 pub mod TreeCalls
 pub mod ValueCalls

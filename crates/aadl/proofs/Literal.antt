@@ -16,7 +16,7 @@ use Rattle.predictive.proofs.Tests.{never, or-true-l}
 use Rattle.predictive.proofs.Heads.{apart, clear, disjoint}
 use Rattle.predictive.proofs.Begins.{begins-apart}
 use Rattle.aadl.specs.Kinds.{#_, COLON, COLON-COLON, IDENT, NONE-KW}
-use Rattle.aadl.specs.Section.{Rule, token, grammar, property-name, property-ref, association-rest, literal-association, read-association, literal-section, section}
+use Rattle.aadl.specs.Section.{Rule, begun, grammar, property-name, property-ref, association-rest, literal-association, read-association, literal-section, section}
 use Rattle.aadl.proofs.SectionTest.{tables, grammar-fine}
 
 abbrev D : Part Rule → Forest → List ℕ → List ℕ → Type 0
@@ -33,7 +33,7 @@ abbrev none-kw : List Head
 none-kw = one (# NONE-KW) ∷ []
 
 -- `::`, an arrow and an association's name are none of these
-colons-apart : {f : Forest} {xs ys : List ℕ} → D (token COLON-COLON) f xs ys → No colon xs
+colons-apart : {f : Forest} {xs ys : List ℕ} → D (begun COLON-COLON) f xs ys → No colon xs
 unfolding ones twos heads-of null first apart clear disjoint
 colons-apart d = begins-apart grammar tables grammar-fine colon d refl refl
 
@@ -50,14 +50,14 @@ name-apart d = begins-apart grammar tables grammar-fine none-kw d refl refl
 colon-follows : {m l : ℕ} {ks : List ℕ} {f : Forest} {xs ys : List ℕ} → D (look m ks l) f xs ys → at (one l ∷ []) ys ≡ true
 colon-follows (d-look {l = l} h i) = or-true-l (eqb l l) false (eq-eqb l l refl)
 
-to-name : {m : ℕ} {f : Forest} {xs ys : List ℕ} → D (property-name m) f xs ys → No colon ys → D (token IDENT) f xs ys
+to-name : {m : ℕ} {f : Forest} {xs ys : List ℕ} → D (property-name m) f xs ys → No colon ys → D (begun IDENT) f xs ys
 to-name (d-left a) c = a
 to-name (d-right a m) c = never (sym c ∙ colon-follows a)
 
-to-second : {m : ℕ} {f : Forest} {xs ys : List ℕ} → D (seq (token COLON-COLON) (property-name m)) f xs ys → No colon ys → D (seq (token COLON-COLON) (token IDENT)) f xs ys × No colon xs
+to-second : {m : ℕ} {f : Forest} {xs ys : List ℕ} → D (seq (begun COLON-COLON) (property-name m)) f xs ys → No colon ys → D (seq (begun COLON-COLON) (begun IDENT)) f xs ys × No colon xs
 to-second (d-seq a b e) c = (d-seq a (to-name b c) e, colons-apart a)
 
-to-ref : {f : Forest} {xs ys : List ℕ} → D (property-ref (property-name 3) (property-name 2)) f xs ys → No colon ys → D (property-ref (token IDENT) (token IDENT)) f xs ys
+to-ref : {f : Forest} {xs ys : List ℕ} → D (property-ref (property-name 3) (property-name 2)) f xs ys → No colon ys → D (property-ref (begun IDENT) (begun IDENT)) f xs ys
 to-ref (d-inside (d-seq a (d-some b) e)) c =
     let s = to-second b c in
     d-inside (d-seq (to-name a (s .1)) (d-some (s .0)) e)

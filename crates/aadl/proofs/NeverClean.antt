@@ -21,7 +21,7 @@ use Rattle.aadl.specs.Limits.{Limits}
 use Rattle.aadl.specs.Kinds.{SEMICOLON, STRING-LIT, NONE-KW, PROPERTIES-KW, #_}
 use Rattle.aadl.specs.Tokens.{token, tokens, unclosed}
 use Rattle.aadl.specs.Symbols.{is-trivia, shown, symbols, without-trivia, kinds}
-use Rattle.aadl.specs.Section.{Rule, token as fixed, grammar, literal-association, literal-section}
+use Rattle.aadl.specs.Section.{Rule, token as fixed, begun, grammar, literal-association, literal-section}
 use Rattle.aadl.specs.Reading.{events, too-deep, Clean, Derivation}
 use Rattle.aadl.proofs.Bools.{cond-has}
 use Rattle.aadl.proofs.Unclosed.{unclosed-there}
@@ -83,7 +83,7 @@ many-ends p ends h xs zs (m-cons {f = f} {g = g} {ys = ys} a m e) d =
     ⊎-elim (λ r. inr (whole ∙ r ∙ first)) (λ r. inr (whole ∙ r)) (many-ends p ends g ys zs m (last d (leaves f)))
 
 -- behind `properties`
-associations-end : (g : Forest) (ys : List ℕ) → Derives grammar (fixed NONE-KW · fixed SEMICOLON ∣ many literal-association) g ys [] → (d : ℕ) →
+associations-end : (g : Forest) (ys : List ℕ) → Derives grammar (begun NONE-KW · fixed SEMICOLON ∣ many literal-association) g ys [] → (d : ℕ) →
     (last d (leaves g) ≡ d) ⊎ (last d (leaves g) ≡ # SEMICOLON)
 associations-end g ys (d-left a) d = inr (seq-ends _ _ (tok-ends _) g ys [] a d)
 associations-end g ys (d-right (d-many m) o) d = many-ends literal-association association-ends g ys [] m d

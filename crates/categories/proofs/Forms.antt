@@ -14,7 +14,7 @@ use Rattle.predictive.proofs.Heads.{at-neither, same, among, apart, clear, disj
 use Rattle.aadl.specs.Kinds.{THREAD-KW, GROUP-KW, PROCESSOR-KW, VIRTUAL-KW, BUS-KW, SUBPROGRAM-KW, DATA-KW, COMPONENT-CATEGORY, DIRECTION, #_}
 use Rattle.aadl.specs.Kinds.{IN-KW, OUT-KW, PORT-KW, EVENT-KW, ACCESS-KW, PROVIDES-KW, REQUIRES-KW, FEATURE-KW}
 use Rattle.aadl.specs.Symbols.{shown}
-use Rattle.aadl.specs.Section.{Rule, token, numbers, node, heads, direction, component-category, component-forms, feature-forms, category-forms, category}
+use Rattle.aadl.specs.Section.{Rule, begun, numbers, node, heads, direction, component-category, component-forms, feature-forms, category-forms, category}
 use Rattle.syntax_kind.specs.Categories.{categories}
 use Rattle.parser.specs.declared.Parser.{Parser}
 use Rattle.parser.specs.Input.{Input, END, nth}
@@ -25,7 +25,7 @@ use Rattle.categories.proofs.Words.{begins-one, begins-two, _also_, no-
 
 module _ (d : ℕ) where
   abbrev in-part : Part Rule
-  in-part = node DIRECTION (token IN-KW · opt free (token OUT-KW))
+  in-part = node DIRECTION (begun IN-KW · opt free (begun OUT-KW))
 
   pub in-form : (xs : List ℕ) → at (heads (IN-KW ∷ [])) xs ≡ true → Alike d in-part direction xs
   unfolding read step first ones take-one take-form best
@@ -49,7 +49,7 @@ component-word inp p e f g = sym (kinds-are inp p categories no-category e) ∙ 
 
 module _ (d : ℕ) where
   abbrev virtual-part : Part Rule
-  virtual-part = node COMPONENT-CATEGORY (token VIRTUAL-KW · tok 8 (numbers (BUS-KW ∷ PROCESSOR-KW ∷ [])))
+  virtual-part = node COMPONENT-CATEGORY (begun VIRTUAL-KW · tok 8 (numbers (BUS-KW ∷ PROCESSOR-KW ∷ [])))
 
   pub virtual-form : (xs : List ℕ) → at (heads (VIRTUAL-KW ∷ [])) xs ≡ true → Alike d virtual-part component-category xs
   unfolding read step ones take-one take-form best
@@ -62,7 +62,7 @@ module _ (d : ℕ) where
       F ys = Alike d virtual-part component-category (# VIRTUAL-KW ∷ ys)
 
   abbrev group-part : Part Rule
-  group-part = node COMPONENT-CATEGORY (any · opt free (token GROUP-KW))
+  group-part = node COMPONENT-CATEGORY (any · opt free (begun GROUP-KW))
 
   pub group-form : (xs : List ℕ) → at (heads (THREAD-KW ∷ SUBPROGRAM-KW ∷ [])) xs ≡ true → Alike d group-part component-category xs
   unfolding read step first take-one take-any take-form best
@@ -87,7 +87,7 @@ module _ (d : ℕ) where
 
 module _ (d : ℕ) where
   abbrev event-data-part : Part Rule
-  event-data-part = (token EVENT-KW · token DATA-KW) · opt free (token PORT-KW)
+  event-data-part = (begun EVENT-KW · begun DATA-KW) · opt free (begun PORT-KW)
 
   pub event-data-form : (xs : List ℕ) → at (two (# EVENT-KW) (# DATA-KW) ∷ []) xs ≡ true → Alike d event-data-part category xs
   unfolding read step first take-one take-form best
@@ -97,12 +97,12 @@ module _ (d : ℕ) where
 
   -- `event` alone
   pub event-form : (xs : List ℕ) → at (one (# EVENT-KW) ∷ []) xs ≡ true → at (two (# EVENT-KW) (# DATA-KW) ∷ two (# EVENT-KW) (# PORT-KW) ∷ []) xs ≡ false →
-      Alike d (token EVENT-KW) category xs
+      Alike d (begun EVENT-KW) category xs
   unfolding read step take-one take-form best
   event-form = begins-one (# EVENT-KW) F alone
     where
       F : List ℕ → Type 0
-      F xs = at (two (# EVENT-KW) (# DATA-KW) ∷ two (# EVENT-KW) (# PORT-KW) ∷ []) xs ≡ false → Alike d (token EVENT-KW) category xs
+      F xs = at (two (# EVENT-KW) (# DATA-KW) ∷ two (# EVENT-KW) (# PORT-KW) ∷ []) xs ≡ false → Alike d (begun EVENT-KW) category xs
 
       alone : (ys : List ℕ) → F (# EVENT-KW ∷ ys)
       alone [] e n = refl
@@ -112,7 +112,7 @@ module _ (d : ℕ) where
           rw (f, g) refl
 
   abbrev feature-part : Part Rule
-  feature-part = token FEATURE-KW · opt free (token GROUP-KW)
+  feature-part = begun FEATURE-KW · opt free (begun GROUP-KW)
 
   pub feature-form : (xs : List ℕ) → at (one (# FEATURE-KW) ∷ []) xs ≡ true → Alike d feature-part category xs
   unfolding read step first take-one take-form best
@@ -138,6 +138,6 @@ component-form d xs c e n =
 abbrev pub other-heads : List Head
 other-heads = (one (# PORT-KW) ∷ feature-heads) ++ ones categories
 
-pub access-form : (d : ℕ) (xs : List ℕ) → at other-heads xs ≡ false → Alike d (opt free (token ACCESS-KW)) category xs
+pub access-form : (d : ℕ) (xs : List ℕ) → at other-heads xs ≡ false → Alike d (opt free (begun ACCESS-KW)) category xs
 unfolding ones categories among same best
 access-form d = maybe-form other-heads category-forms d (# ACCESS-KW) refl (λ ys. refl)

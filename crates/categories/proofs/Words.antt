@@ -10,7 +10,7 @@ use lib.Dec.{eqb, ltb}
 use lib.ListN.{length}
 use borrow.Author.Tests.{eqb-true, eq-eqb}
 use Rattle.predictive.specs.Grammar.{Head, one, two, is, starts, at, has, Form, row, kinds-of, stand, longer, best, free, Part, tok, longest, seq, opt}
-use Rattle.predictive.specs.Reader.{ones, first, expected, take-one, take-form, step, read}
+use Rattle.predictive.specs.Reader.{ones, first, unmet, take-one, take-form, step, read}
 use Rattle.predictive.proofs.Tests.{never, and-l, and-r, or-true-l, or-cases}
 use Rattle.predictive.proofs.Heads.{at-end, at-ones, at-neither, among, among-absent}
 use Rattle.syntax_kind.proofs.KindSets.{joined, joined-has}
@@ -167,17 +167,17 @@ Alike d P Q xs = (n : ℕ) → read grammar n d P xs ≡ read grammar n d Q xs
 
 -- A form of one word.
 pub word-form : (cs : List Form) (d k : ℕ) → ((ys : List ℕ) → best cs (k ∷ ys) ≡ some (row (k ∷ []))) → (xs : List ℕ) → at (one k ∷ []) xs ≡ true →
-    Alike d (tok (expected k) (k ∷ [])) (longest cs) xs
+    Alike d (tok unmet (k ∷ [])) (longest cs) xs
 unfolding read step take-one take-form
-word-form cs d k f = begins-one k (Alike d (tok (expected k) (k ∷ [])) (longest cs)) (λ ys n. rw (f ys, eq-eqb k k refl) refl)
+word-form cs d k f = begins-one k (Alike d (tok unmet (k ∷ [])) (longest cs)) (λ ys n. rw (f ys, eq-eqb k k refl) refl)
 
 -- A form of one word, if it stands, where no other form does.
 pub maybe-form : (hs : List Head) (cs : List Form) (d k : ℕ) → all-barred (hs ++ one k ∷ []) cs ≡ true → ((ys : List ℕ) → best cs (k ∷ ys) ≡ some (row (k ∷ []))) →
-    (xs : List ℕ) → at hs xs ≡ false → Alike d (opt free (tok (expected k) (k ∷ []))) (longest cs) xs
+    (xs : List ℕ) → at hs xs ≡ false → Alike d (opt free (tok unmet (k ∷ []))) (longest cs) xs
 unfolding read step first ones take-form
 maybe-form hs cs d k a f xs e n = go (at (one k ∷ []) xs) refl
   where
-    go : (t : Bool) → at (one k ∷ []) xs ≡ t → read grammar n d (opt free (tok (expected k) (k ∷ []))) xs ≡ read grammar n d (longest cs) xs
+    go : (t : Bool) → at (one k ∷ []) xs ≡ t → read grammar n d (opt free (tok unmet (k ∷ []))) xs ≡ read grammar n d (longest cs) xs
     go true q = rw q (word-form cs d k f xs q n)
     go false q = rw (q, best-none (hs ++ one k ∷ []) cs xs a (at-neither hs (one k ∷ []) xs e q)) refl
 
@@ -203,11 +203,11 @@ module _ {inp : Input} {d : ℕ} {p : Parser} {b : List ℕ} where
 -- A form of two words.
 pub r-pair : {inp : Input} {d : ℕ} (cs : List Form) (k l : ℕ) {p : Parser} {b : List ℕ} {q : Parser} {c : List ℕ} {r : Parser} {e : List ℕ} →
     ((ys : List ℕ) → best cs (k ∷ l ∷ ys) ≡ some (row (k ∷ l ∷ []))) → stands inp (two k l ∷ []) p ≡ true →
-    Read inp d (tok (expected k) (k ∷ [])) p b q c → Read inp d (tok (expected l) (l ∷ [])) q c r e → Read inp d (longest cs) p b r e
+    Read inp d (tok unmet (k ∷ [])) p b q c → Read inp d (tok unmet (l ∷ [])) q c r e → Read inp d (longest cs) p b r e
 unfolding read step take-one take-form
 r-pair {d = d} cs k l f h x y = r-where (two k l ∷ []) alike h (r-seq x y)
   where
-    alike : (xs : List ℕ) → at (two k l ∷ []) xs ≡ true → Alike d (seq (tok (expected k) (k ∷ [])) (tok (expected l) (l ∷ []))) (longest cs) xs
+    alike : (xs : List ℕ) → at (two k l ∷ []) xs ≡ true → Alike d (seq (tok unmet (k ∷ [])) (tok unmet (l ∷ []))) (longest cs) xs
     alike =
-        begins-two k l (Alike d (seq (tok (expected k) (k ∷ [])) (tok (expected l) (l ∷ []))) (longest cs))
+        begins-two k l (Alike d (seq (tok unmet (k ∷ [])) (tok unmet (l ∷ []))) (longest cs))
         (λ ys n. rw (f ys, eq-eqb k k refl, eq-eqb l l refl) refl)

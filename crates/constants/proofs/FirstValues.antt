@@ -21,7 +21,7 @@ use Rattle.predictive.proofs.Forests.{then-assoc}
 use Rattle.predictive.proofs.Consumed.{count, count-node, consumed}
 use Rattle.aadl.specs.Kinds.{COMMA, SEMICOLON, FAT-ARROW, PLUS-ARROW, IDENT, CONSTANT-KW, PROPERTY-ASSOCIATION, #_}
 use Rattle.aadl.specs.Symbols.{shown}
-use Rattle.aadl.specs.Section.{Rule, token, heads, keywords, names, commas, value, modes, applies-to, in-binding, property-ref, association-rest, literal-association, literal-section, grammar}
+use Rattle.aadl.specs.Section.{Rule, token, begun, heads, keywords, names, commas, value, modes, applies-to, in-binding, property-ref, association-rest, literal-association, literal-section, grammar}
 use Rattle.aadl.specs.Values.{Association, Outcome, children, nth-tree, associations}
 use Rattle.aadl.proofs.SectionTest.{tables, grammar-fine}
 use Rattle.aadl.proofs.Lists.{Each}
@@ -32,7 +32,7 @@ use Rattle.constants.proofs.Sums.{outcome, goes-on, expression-evaluate
 
 -- what may stand behind an Expression that is an association's value, and such values with what follows them
 abbrev value-end : Part Rule
-value-end = seq (maybe modes) (seq (many (seq (token COMMA) value)) (seq (maybe applies-to) (seq (maybe in-binding) (token SEMICOLON))))
+value-end = seq (maybe modes) (seq (many (seq (begun COMMA) value)) (seq (maybe applies-to) (seq (maybe in-binding) (token SEMICOLON))))
 
 abbrev values : Part Rule
 values = seq (commas value value) (seq (maybe applies-to) (seq (maybe in-binding) (token SEMICOLON)))
@@ -69,7 +69,7 @@ module _ (number-of-token : ℕ → Option ℕ) where
   not-passed i [] n = refl
   not-passed i (x ∷ xs) n = rw (or-l (eqb x (# CONSTANT-KW)) false n) refl
 
-  constant-evaluated : (i : ℕ) {f : Forest} {xs ys : List ℕ} → D (seq (maybe (token CONSTANT-KW)) values) f xs ys →
+  constant-evaluated : (i : ℕ) {f : Forest} {xs ys : List ℕ} → D (seq (maybe (begun CONSTANT-KW)) values) f xs ys →
       tree-value 0 i f ≡ past-constant number-of-token i xs
   unfolding children shown
   constant-evaluated i {xs = xs} (d-seq (d-none m) d q) = rw q (values-evaluated i d ∙ sym (not-passed i xs (no-constant-kw d)))
@@ -88,7 +88,7 @@ module _ (number-of-token : ℕ → Option ℕ) where
 
   -- AN ASSOCIATION -----------------------------------------------------------------------------------------------------
 
-  name-passed : (i : ℕ) (rest : Forest) {r : Forest} {xs ys : List ℕ} → D (property-ref (token IDENT) (token IDENT)) r xs ys →
+  name-passed : (i : ℕ) (rest : Forest) {r : Forest} {xs ys : List ℕ} → D (property-ref (begun IDENT) (begun IDENT)) r xs ys →
       tree-value 0 (i + count r) rest ≡ past-arrow number-of-token (i + count r) ys → tree-value 1 i (r then rest) ≡ past-arrow number-of-token i xs
   unfolding children shown leaves past-arrow
   name-passed i rest {ys = ys} (d-inside (d-seq t (d-none m) q)) h =

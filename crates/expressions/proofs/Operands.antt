@@ -18,7 +18,7 @@ use Rattle.predictive.proofs.Heads.{same, among, within-heads, within-absent}
 use Rattle.predictive.specs.Notation.{_·_}
 use Rattle.aadl.specs.Kinds.{#_, ERROR, COMMA, DOT-DOT, STAR, SLASH, BINARY-EXPR, NOT-KW, L-PAREN, L-BRACKET, PLUS, MINUS, INTEGER-LIT, REAL-LIT, STRING-LIT, TRUE-KW, FALSE-KW, CLASSIFIER-KW, REFERENCE-KW, COMPUTE-KW, IDENT}
 use Rattle.aadl.specs.Symbols.{C-STYLE, shown}
-use Rattle.aadl.specs.Section.{Rule, Expression, Negated, token, one-of, product, sum, delta-value, names, keywords, numbers, grammar, operand, expression, integer-value, real-value, string-value, boolean-value, not-value, classifier-value, reference-value, computed-value, list-value, record-value, named-value}
+use Rattle.aadl.specs.Section.{Rule, Expression, Negated, begun, one-of, product, sum, delta-value, names, keywords, numbers, grammar, operand, expression, integer-value, real-value, string-value, boolean-value, not-value, classifier-value, reference-value, computed-value, list-value, record-value, named-value}
 use Rattle.aadl.specs.Section as G
 use Rattle.parser.specs.declared.Parser.{Parser}
 use Rattle.parser.specs.declared.Completed.{Completed}
@@ -215,14 +215,14 @@ term = one-of (PLUS ∷ MINUS ∷ []) · product
 
 -- what may follow the first sum of an expression
 abbrev pub ranged : Part Rule
-ranged = token DOT-DOT · sum · opt free delta-value
+ranged = begun DOT-DOT · sum · opt free delta-value
 
 -- what any of these begins with
 abbrev pub operators : List Head
 operators = ones (numbers (STAR ∷ SLASH ∷ PLUS ∷ MINUS ∷ DOT-DOT ∷ []))
 
 abbrev pub next-item : Part Rule
-next-item = token COMMA · rule Expression
+next-item = begun COMMA · rule Expression
 
 -- Where a loop over a chain stands that began at q₀ with the node lhs₀: a chain of whatever that is the first operand of.
 pub record Chained (inp : Input) (P Q : Part Rule) (q₀ : Parser) (b₁ : List ℕ) (lhs₀ : CompletedMarker) (q : Parser) (b : List ℕ) (lhs : CompletedMarker) : Type 0 where

@@ -1,6 +1,6 @@
 -- The walk of a function by value over one that is lent a parser: a local holds the parser and is lent for a lifetime that is made for
 -- the call; what the call leaves in it comes back, and is returned. All that is known of the function that it calls is its contract.
--- `expect` and `bump` differ in that function's name alone. Assumes nothing.
+-- `expect` and `bump` differ in that function's name and in the message for a kind, as in `LentWalk`. Assumes nothing.
 use mathlib.Core.Path.{_≡_, refl, sym, ap, subst}
 use lib.Dec.{T as Holds}
 use Prim.Native.Nat.{ℕ, _<_, _^_}
@@ -13,11 +13,9 @@ use mir.Syntax.{call, return}
 use mir.Val.{Val, WT, hasTy, vint, vptr}
 use base.Logic.{SProp, ent, sep, id⊢}
 use base.Fml.{Lft, Share, GName, Fml, ftrue, flft, fat, flent}
-use prog.Memory.{Memory}
-use prog.Routine.{Routine}
 use prog.Wp.{Heap, Calls, Loops, WpFn, Tables}
 use ghost.Atoms.{Atoms, sem}
-use contract.Monad.{Fun, fact}
+use contract.Monad.{fact}
 use types.Kit.{Given, ‵, raw, some, later, _⊛_, ⋆, _$_, _∵_, !, qed, by, move, keep, drop, use1, use3, split, join, pick, fsplit, fjoin, feqL, suffices, frame, await, done}
 use types.Run.{look, init, forget, stop, hop, fld, from, load, addr, of-opd, and-then, no-more, assigns, land, returns, enter, alloc1, alloc0, params1, pass1, pass0, free1, free0}
 use types.Part.{agg, whole, sub, look-in}
@@ -38,7 +36,7 @@ use denote.Triple.Entry.{onEntry}
 use denote.Triple.Spec.{Meets, tripleOf}
 use denote.Triple.Statement.{Contract, Triple}
 use denote.Triple.Call.{calls-at}
-use denote.Triple.Clauses.{ensured, lasts}
+use denote.Triple.Clauses.{ensured, lasts, closing}
 use denote.Triple.Walked.{says, needs, Stays, stay-none-slice, gave-slice, stay-none, walkOf, goes-none-slice, goes-gave-slice, goes-none, Walks, ends-at, walked, walk-meets}
 use denote.Exit.{yes}
 use denote.Signature.{plain}
@@ -46,6 +44,7 @@ use Rattle.parser.specs.declared.Parser.{Parser}
 use Rattle.parser.proofs.Parser as T
 use Rattle.parser.proofs.Parser.Laws as T′
 use Rattle.parser.proofs.Lent.{Took, parser-local, ref-local, slice-local, lies-in, lies-out}
+use Rattle.parser.proofs.LentWalk.{by-value-clauses, lent-clauses}
 use Rattle.parser.proofs.Parser.expect as lent
 use Rattle.parser.proofs.expect as expect
 
@@ -86,11 +85,11 @@ stayed = (
   ),
 )
 
--- the contract of the function that is called
-abbrev pub Lent : {M : Type 1} (𝓤 : URA M) (H : Heap 𝓤) (A : Atoms 𝓤) (mem : Memory → SProp 𝓤) (run : Routine → Fun 𝓤) → Contract 𝓤
-Lent 𝓤 H A mem run = tripleOf 𝓤 H A lent.signature (lent.spec 𝓤 H A mem run)
+-- the contract of the function that is called, over the message for each kind; the function's own is that of one by value
+abbrev pub Lent : (ℕ → ℕ) → {M : Type 1} (𝓤 : URA M) (H : Heap 𝓤) (A : Atoms 𝓤) → Contract 𝓤
+Lent m 𝓤 H A = tripleOf 𝓤 H A lent.signature (closing 𝓤 H A lent.ended (lent-clauses m 𝓤))
 
-module _ {M : Type 1} (𝓤 : URA M) (H : Heap 𝓤) (A : Atoms 𝓤) (W : Given 𝓤 H A) (at-mem : Memory → SProp 𝓤) (run : Routine → Fun 𝓤) (κ₁ κ₂ κ₃ : Lft) (q₁ q₂ q₃ : Share) (xs ts : RefT (List ℕ))
+module _ (m : ℕ → ℕ) {M : Type 1} (𝓤 : URA M) (H : Heap 𝓤) (A : Atoms 𝓤) (W : Given 𝓤 H A) (κ₁ κ₂ κ₃ : Lft) (q₁ q₂ q₃ : Share) (xs ts : RefT (List ℕ))
     (b′ o′ : ℕ) (γ′ : GName) (ys : List ℕ) (p : Parser) (k : ℕ) (k-fits : k < 2 ^ 32) (was : Is T.the-row p (T′.lowered p ∷ [])) (ok : k < 256) where
   abbrev es : RefT (List ℕ)
   es = record { ptr = (b′, o′); name = γ′; now = ys }
@@ -118,14 +117,14 @@ module _ {M : Type 1} (𝓤 : URA M) (H : Heap 𝓤) (A : Atoms 𝓤) (W : Given
   vals = (x ∷ [], (t ∷ [], (e ∷ [], (mach p ∷ [], (vint w32 k ∷ [], tt)))))
 
   abbrev Post : Val → SProp 𝓤
-  Post = walkOf 𝓤 H A expect.ended stayed (expect.clauses 𝓤 H A at-mem run) .post (((κ₁, (κ₂, (κ₃, tt))), (q₁, (q₂, (q₃, tt))), tt, a, vals), tt)
+  Post = walkOf 𝓤 H A expect.ended stayed (by-value-clauses m 𝓤) .post (((κ₁, (κ₂, (κ₃, tt))), (q₁, (q₂, (q₃, tt))), tt, a, vals), tt)
 
   -- the local at l, lent under the name δ
   abbrev at : ℕ → GName → RefT Parser
   at l δ = record { ptr = (l, 0); name = δ; now = p }
 
   -- what the call's triple binds outside, where the local is lent for ν
-  abbrev to : ℕ → ℕ → GName → Lent 𝓤 H A at-mem run .Ghost
+  abbrev to : ℕ → ℕ → GName → Lent m 𝓤 H A .Ghost
   to l ν δ = (((ν ∷ [], (κ₁, (κ₂, (κ₃, tt)))), (fullShare, (q₁, (q₂, (q₃, tt)))), tt, (at l δ, (xs, (ts, (es, (k, tt))))), (vptr l 0 ∷ [], (x ∷ [], (t ∷ [], (e ∷ [], (vint w32 k ∷ [], tt)))))), tt)
 
   abbrev Text : Fml
@@ -142,7 +141,7 @@ module _ {M : Type 1} (𝓤 : URA M) (H : Heap 𝓤) (A : Atoms 𝓤) (W : Given
 
   goes : (l ν : ℕ) (δ : GName) → ent 𝓤 (sep 𝓤 (sep 𝓤 (sem 𝓤 H A Text) (sem 𝓤 H A Toks))
       (sep 𝓤 (sep 𝓤 (A .lft (ν ∷ []) fullShare) (sep 𝓤 (A .lft κ₁ q₁) (sep 𝓤 (A .lft κ₂ q₂) (sep 𝓤 (A .lft κ₃ q₃) (sem 𝓤 H A ftrue))))) (sep 𝓤 (sem 𝓤 H A (Ref l ν δ)) (sem 𝓤 H A Events))))
-      (Lent 𝓤 H A at-mem run .pre (to l ν δ))
+      (Lent m 𝓤 H A .pre (to l ν δ))
   goes l ν δ =
       qed W ((‵ Text ⊛ ‵ Toks) ∷ (‵ (flft (ν ∷ []) fullShare) ⊛ ‵ (flft κ₁ q₁) ⊛ ‵ (flft κ₂ q₂) ⊛ ‵ (flft κ₃ q₃) ⊛ ‵ ftrue) ∷ (‵ (Ref l ν δ) ⊛ ‵ Events) ∷ []) ∵ says ! ok $ move ! (1 ∷ []) $ frame ! $
       split ! $ move ! (2 ∷ []) $ split ! $
@@ -150,18 +149,18 @@ module _ {M : Type 1} (𝓤 : URA M) (H : Heap 𝓤) (A : Atoms 𝓤) (W : Given
       nothing ! $ owned ! u32 (Is u32) (uint-makes 𝓤 H A W w32) k _ (refl, k-fits) $ fjoin ! $ move ! (2 ∷ 0 ∷ []) $ fjoin ! $ move ! (3 ∷ 0 ∷ []) $ fjoin ! $ move ! (2 ∷ 0 ∷ []) $ fjoin ! $
       move ! (1 ∷ 0 ∷ []) $ fjoin ! $ done !
 
-  exits : (r : Parser) (zs : List ℕ) → Took (xs .now) (ts .now) k p ys r zs → length zs ≡ length ys
+  exits : (r : Parser) (zs : List ℕ) → Took (m k) (xs .now) (ts .now) k p ys r zs → length zs ≡ length ys
       → ent 𝓤 (⋆ 𝓤 H A (‵ (T.the-row .own r (mach r ∷ [])) ∷ (‵ (flft κ₁ q₁) ⊛ ‵ (flft κ₂ q₂) ⊛ ‵ (flft κ₃ q₃) ⊛ ‵ ftrue) ∷ ‵ (finally u32 γ′ zs) ∷ ‵ Toks ∷ ‵ Text ∷ [])) (Post (mach r))
   exits r zs did l =
       qed W (‵ (T.the-row .own r (mach r ∷ [])) ∷ (‵ (flft κ₁ q₁) ⊛ ‵ (flft κ₂ q₂) ⊛ ‵ (flft κ₃ q₃) ⊛ ‵ ftrue) ∷ ‵ (finally u32 γ′ zs) ∷ ‵ Toks ∷ ‵ Text ∷ []) ∵
-      suffices ! _ (ends-at 𝓤 H A expect.ended stayed (expect.clauses 𝓤 H A at-mem run) W (((κ₁, (κ₂, (κ₃, tt))), (q₁, (q₂, (q₃, tt))), tt, a, vals), tt) (mach r) r (tt, (tt, (zs, (tt, (tt, tt)))))
+      suffices ! _ (ends-at 𝓤 H A expect.ended stayed (by-value-clauses m 𝓤) W (((κ₁, (κ₂, (κ₃, tt))), (q₁, (q₂, (q₃, tt))), tt, a, vals), tt) (mach r) r (tt, (tt, (zs, (tt, (tt, tt)))))
       (tt, (tt, (l, (tt, (tt, tt)))))) $ says ! did $
       move ! (1 ∷ []) $ frame ! $
       -- [what the result owns; the last events; tokens; text]
       nothing ! $ owned ! u32 (Is u32) (uint-makes 𝓤 H A W w32) k _ (refl, k-fits) $ fjoin ! $ owned ! T.the-row (Is T.the-row) (LL.makes T.the-type T′.the-plain 𝓤 H A) p _ was $ fjoin ! $
       move ! (2 ∷ 0 ∷ []) $ fjoin ! $ move ! (2 ∷ 0 ∷ []) $ fjoin ! $ move ! (2 ∷ 0 ∷ []) $ fjoin ! $ done !
 
-  module _ (f : Name) (C : Calls 𝓤 H) (Λ : Loops 𝓤 H) (fm : FmC 𝓤 H (W .laws) C) (known : Triple 𝓤 (C f) (Lent 𝓤 H A at-mem run)) where
+  module _ (f : Name) (C : Calls 𝓤 H) (Λ : Loops 𝓤 H) (fm : FmC 𝓤 H (W .laws) C) (known : Triple 𝓤 (C f) (Lent m 𝓤 H A)) where
     walk : Room u8 (length (xs .now)) → Room u32 (length (ts .now)) → Room u32 (length ys)
         → ent 𝓤 (onEntry 𝓤 H A expect.signature (κ₁, (κ₂, (κ₃, tt))) (q₁, (q₂, (q₃, tt))) a vals) (WpFn 𝓤 H C Λ (by-value-function f) (x ∷ t ∷ e ∷ mach p ∷ vint w32 k ∷ []) Post)
     walk room-x room-t room =
@@ -188,18 +187,18 @@ module _ {M : Type 1} (𝓤 : URA M) (H : Heap 𝓤) (A : Atoms 𝓤) (W : Given
         move ! (25 ∷ []) $ fsplit ! $ use1 W (‵ Text ⊛ ‵ Text) (shr-slice-copy 𝓤 H A W (named 0) κ₁ u8 .twice xs (x ∷ [])) $ split ! $ move ! (2 ∷ []) $
         fsplit ! $ use1 W (‵ Toks ⊛ ‵ Toks) (shr-slice-copy 𝓤 H A W (named 1) κ₂ u32 .twice ts (t ∷ [])) $ split ! $ move ! (2 ∷ []) $ fsplit ! $
         -- [events; p and kind; tokens; tokens; text; text; the reference; the lender's part; ν's token; _10; …; the slices' tokens]
-        move ! (8 ∷ 30 ∷ []) $ join ! $ move ! (5 ∷ 3 ∷ []) $ join ! $ move ! (6 ∷ 2 ∷ []) $ join ! $ move ! (1 ∷ 2 ∷ 0 ∷ []) $ use3 W (raw (Lent 𝓤 H A at-mem run .pre (to l₆ ν δ))) (goes l₆ ν δ) $
+        move ! (8 ∷ 30 ∷ []) $ join ! $ move ! (5 ∷ 3 ∷ []) $ join ! $ move ! (6 ∷ 2 ∷ []) $ join ! $ move ! (1 ∷ 2 ∷ 0 ∷ []) $ use3 W (raw (Lent m 𝓤 H A .pre (to l₆ ν δ))) (goes l₆ ν δ) $
         -- [what the call asks; p and kind; tokens; text; the lender's part; _10; …]
-        calls-at ! fm (Lent 𝓤 H A at-mem run) known (to l₆ ν δ) (and-then ! (load ! (from ! (stop !)) (look ! 9 refl)) (and-then ! (load ! (from ! (stop !)) (look ! 22 refl))
+        calls-at ! fm (Lent m 𝓤 H A) known (to l₆ ν δ) (and-then ! (load ! (from ! (stop !)) (look ! 9 refl)) (and-then ! (load ! (from ! (stop !)) (look ! 22 refl))
         (and-then ! (load ! (from ! (stop !)) (look ! 20 refl)) (and-then ! (load ! (from ! (stop !)) (look ! 5 refl)) (and-then ! (load ! (from ! (stop !)) (look ! 14 refl)) (no-more !))))))
         (λ w.
         use1 W (later (some (λ (r : Unit {0}). ((‵ (flft (ν ∷ []) fullShare) ⊛ ‵ (flft κ₁ q₁) ⊛ ‵ (flft κ₂ q₂) ⊛ ‵ (flft κ₃ q₃) ⊛ ‵ ftrue) ⊛ ‵ (Nothing .own r (w ∷ [])))
-        ⊛ raw (ensured 𝓤 H A lent.ended (lent.clauses 𝓤 H A at-mem run) (ν ∷ [], (κ₁, (κ₂, (κ₃, tt)))) (at l₆ δ, (xs, (ts, (es, (k, tt))))) tt r)))) (id⊢ 𝓤 _) $ await ! tt $ pick ! (λ r.
+        ⊛ raw (ensured 𝓤 H A lent.ended (lent-clauses m 𝓤) (ν ∷ [], (κ₁, (κ₂, (κ₃, tt)))) (at l₆ δ, (xs, (ts, (es, (k, tt))))) tt r)))) (id⊢ 𝓤 _) $ await ! tt $ pick ! (λ r.
         -- what it ensures, at some last parser and last events
         split ! $ move ! (1 ∷ []) $ use1 W (some (λ (zs : Parser × (Unit {0} × (Unit {0} × (List ℕ × (Unit {0} × Unit {0}))))).
-        ‵ (lasts lent.ended (ν ∷ [], (κ₁, (κ₂, (κ₃, tt)))) (at l₆ δ, (xs, (ts, (es, (k, tt))))) zs) ⊛ raw (fact 𝓤 (Took (xs .now) (ts .now) k p ys (zs .0) (zs .1 .1 .1 .0))))) (id⊢ 𝓤 _) $
+        ‵ (lasts lent.ended (ν ∷ [], (κ₁, (κ₂, (κ₃, tt)))) (at l₆ δ, (xs, (ts, (es, (k, tt))))) zs) ⊛ raw (fact 𝓤 (Took (m k) (xs .now) (ts .now) k p ys (zs .0) (zs .1 .1 .1 .0))))) (id⊢ 𝓤 _) $
         pick ! (λ zs.
-        split ! $ move ! (1 ∷ []) $ heard ! (Took (xs .now) (ts .now) k p ys (zs .0) (zs .1 .1 .1 .0)) (λ did. fsplit ! $ move ! (1 ∷ []) $ fsplit ! $ drop ! $ fsplit ! $ drop ! $ fsplit ! $
+        split ! $ move ! (1 ∷ []) $ heard ! (Took (m k) (xs .now) (ts .now) k p ys (zs .0) (zs .1 .1 .1 .0)) (λ did. fsplit ! $ move ! (1 ∷ []) $ fsplit ! $ drop ! $ fsplit ! $ drop ! $ fsplit ! $
         fsplit ! $ move ! (1 ∷ []) $ feqL ! (λ l.
         -- [the last events; …; the last parser; the lifetimes' tokens and the result; p and kind; tokens; text; the lender's part; _10; …]
         move ! (3 ∷ []) $ split ! $ move ! (1 ∷ []) $ feqL ! (λ u.
@@ -217,10 +216,10 @@ module _ {M : Type 1} (𝓤 : URA M) (H : Heap 𝓤) (A : Atoms 𝓤) (W : Given
         move ! (13 ∷ 14 ∷ []) $ free1 ! $ move ! (11 ∷ 12 ∷ []) $ free1 ! $ move ! (9 ∷ 10 ∷ []) $ free1 ! $ move ! (7 ∷ 8 ∷ []) $ free1 ! $ free0 ! $
         keep ! (0 ∷ 1 ∷ 2 ∷ 5 ∷ 6 ∷ []) $ by ! (exits (zs .0) (zs .1 .1 .1 .0) did l)))))))))))))))))))))
 
-module _ {M : Type 1} (𝓤 : URA M) (H : Heap 𝓤) (A : Atoms 𝓤) (W : Given 𝓤 H A) (mem : Memory → SProp 𝓤) (run : Routine → Fun 𝓤) where
-  walks : (f : Name) (C : Calls 𝓤 H) (Λ : Loops 𝓤 H) → FmC 𝓤 H (W .laws) C → Triple 𝓤 (C f) (Lent 𝓤 H A mem run) → Walks 𝓤 H A expect.ended stayed (WpFn 𝓤 H C Λ (by-value-function f))
-      (expect.clauses 𝓤 H A mem run)
-  walks f C Λ fm known = walked 𝓤 H A expect.ended stayed (expect.clauses 𝓤 H A mem run) (WpFn 𝓤 H C Λ (by-value-function f))
+module _ (m : ℕ → ℕ) {M : Type 1} (𝓤 : URA M) (H : Heap 𝓤) (A : Atoms 𝓤) (W : Given 𝓤 H A) where
+  walks : (f : Name) (C : Calls 𝓤 H) (Λ : Loops 𝓤 H) → FmC 𝓤 H (W .laws) C → Triple 𝓤 (C f) (Lent m 𝓤 H A) → Walks 𝓤 H A expect.ended stayed (WpFn 𝓤 H C Λ (by-value-function f))
+      (by-value-clauses m 𝓤)
+  walks f C Λ fm known = walked 𝓤 H A expect.ended stayed (by-value-clauses m 𝓤) (WpFn 𝓤 H C Λ (by-value-function f))
       (λ κs. (slice-vals, (slice-vals, (slice-vals, (LL.vals T.the-type T′.the-laws, (uint-vals w32, tt))))))
       (λ κs. (
         shr-slice-tells (named 0) (κs .0) u8,
@@ -230,11 +229,11 @@ module _ {M : Type 1} (𝓤 : URA M) (H : Heap 𝓤) (A : Atoms 𝓤) (W : Given
         ),
       ))
       (λ κs qs bounds a g are. needs 𝓤 (a .1 .1 .1 .1 .0 < 256) _ (λ ok.
-      walk 𝓤 H A W mem run (κs .0) (κs .1 .0) (κs .1 .1 .0) (qs .0) (qs .1 .0) (qs .1 .1 .0) (a .0) (a .1 .0) (a .1 .1 .0 .ptr .0) (a .1 .1 .0 .ptr .1) (a .1 .1 .0 .name) (a .1 .1 .0 .now)
+      walk m 𝓤 H A W (κs .0) (κs .1 .0) (κs .1 .1 .0) (qs .0) (qs .1 .0) (qs .1 .1 .0) (a .0) (a .1 .0) (a .1 .1 .0 .ptr .0) (a .1 .1 .0 .ptr .1) (a .1 .1 .0 .name) (a .1 .1 .0 .now)
       (a .1 .1 .1 .0) (a .1 .1 .1 .1 .0) (are .1 .1 .1 .1 .0 .1) (are .1 .1 .1 .0) ok f C Λ fm known (are .0 .0 .1) (are .1 .0 .0 .1) (are .1 .1 .0 .0 .1)))
 
-  -- the function meets the contract of `expect`, whatever it calls that meets the contract of `Parser::expect`
-  pub by-value-meets : (f : Name) (𝓣 : Tables 𝓤 H) → Triple 𝓤 (𝓣 .C f) (Lent 𝓤 H A mem run) → Meets 𝓤 H A expect.signature (WpFn 𝓤 H (𝓣 .C) (𝓣 .Λ) (by-value-function f)) (expect.spec 𝓤 H A mem run)
+  -- the function meets the contract by value, whatever it calls that meets the contract of one that is lent a parser
+  pub by-value-meets : (f : Name) (𝓣 : Tables 𝓤 H) → Triple 𝓤 (𝓣 .C f) (Lent m 𝓤 H A) → Meets 𝓤 H A expect.signature (WpFn 𝓤 H (𝓣 .C) (𝓣 .Λ) (by-value-function f)) (closing 𝓤 H A expect.ended (by-value-clauses m 𝓤))
   by-value-meets f 𝓣 known =
       walk-meets 𝓤 H A expect.ended stayed W (
         goes-none-slice 𝓤 H A W 3 (0 ∷ []) tt (plain (λ _. u8)) yes,
@@ -243,5 +242,5 @@ module _ {M : Type 1} (𝓤 : URA M) (H : Heap 𝓤) (A : Atoms 𝓤) (W : Given
           (goes-gave-slice 𝓤 H A W 3 2 tt (plain (λ _. u32)), (goes-none 𝓤 H A W 3 (λ _. T.the-row) yes (λ κs x f. refl), (goes-none 𝓤 H A W 3 (λ _. u32) yes (λ κs x f. refl), tt))),
         ),
       )
-      (expect.clauses 𝓤 H A mem run)
+      (by-value-clauses m 𝓤)
       (WpFn 𝓤 H (𝓣 .C) (𝓣 .Λ) (by-value-function f)) (WpFn-mono 𝓤 H (W .laws) 𝓣 (by-value-function f)) (walks f (𝓣 .C) (𝓣 .Λ) (fmOf 𝓤 H (W .laws) 𝓣) known)

@@ -12,7 +12,7 @@ use lib.Dec.{eqb}
 use borrow.Author.Tests.{eq-eqb, eqb-true}
 use Rattle.predictive.specs.Forest.{nil, refusal}
 use Rattle.predictive.specs.Grammar.{Head, one, is, at, Choice, Part, tok, seq, either, opt, until, inside, opens, rule}
-use Rattle.predictive.specs.Reader.{Result, miss, done, pick, expected, within, step, below, read, first}
+use Rattle.predictive.specs.Reader.{Result, miss, done, pick, expected, unmet, within, step, below, read, first}
 use Rattle.predictive.specs.Events.{Event, start, finish, events, events-of, left-over}
 use Rattle.predictive.proofs.Tests.{never}
 use Rattle.predictive.proofs.Heads.{at-append, in-l}
@@ -151,7 +151,7 @@ is-at k [] t e = e
 is-at k (x ∷ xs) t e = sym (or-false (eqb x k)) ∙ e
 
 module _ {inp : Input} {d k : ℕ} {P : Part Rule} {p : Parser} {b : List ℕ} where
-  pub r-until-at-once : {r : Parser} {e : List ℕ} → stands inp (one k ∷ []) p ≡ true → Read inp d (tok (expected k) (k ∷ [])) p b r e →
+  pub r-until-at-once : {r : Parser} {e : List ℕ} → stands inp (one k ∷ []) p ≡ true → Read inp d (tok unmet (k ∷ [])) p b r e →
       Read inp d (until k P) p b r e
   unfolding read step
   r-until-at-once s x = r-same (λ n h. sym (rw (is-at k (rest inp p) true (stands-at inp (one k ∷ []) p s h)) refl)) x

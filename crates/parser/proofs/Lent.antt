@@ -17,16 +17,15 @@ use denote.Steps.{owned}
 use denote.Struct.Steps.{spelt}
 use denote.Struct.Laws as LL
 use Rattle.predictive.specs.Grammar.{tok}
-use Rattle.predictive.specs.Reader.{expected}
 use Rattle.parser.specs.declared.Parser.{Parser}
 use Rattle.parser.specs.Input.{input}
 use Rattle.parser.specs.Reads.{Read}
 use Rattle.parser.proofs.Parser as T
 use Rattle.parser.proofs.Parser.Laws as T′
 
--- what each of these functions ensures: the token of kind k is taken, or its message pushed, from p and b to r and c
-abbrev pub Took : (text toks : List ℕ) (k : ℕ) (p : Parser) (b : List ℕ) (r : Parser) (c : List ℕ) → Type 0
-Took text toks k p b r c = (d : ℕ) → Read (input text toks) d (tok (expected k) (k ∷ [])) p b r c
+-- what each of these functions ensures: the token of kind k is taken, or message m pushed, from p and b to r and c
+abbrev pub Took : (m : ℕ) (text toks : List ℕ) (k : ℕ) (p : Parser) (b : List ℕ) (r : Parser) (c : List ℕ) → Type 0
+Took m text toks k p b r c = (d : ℕ) → Read (input text toks) d (tok m (k ∷ [])) p b r c
 
 -- A `Parser`, a reference to one and references to slices, as MIR has them in locals.
 abbrev pub parser-local : Home → Local

@@ -1,6 +1,7 @@
 -- The walk of a function that is lent a parser: it copies the parser whole, calls a function by value on the copy and the slices,
 -- and stores what that returns behind the reference, whose borrow is closed at it. All that is known of the function that it calls is
--- its contract. `Parser::expect` and `Parser::bump` differ in that function's name alone. Assumes nothing.
+-- its contract. `Parser::expect` and `Parser::bump` differ in that function's name and in the message for a token that does not stand.
+-- Assumes nothing.
 use mathlib.Core.Path.{_≡_, refl}
 use Prim.Native.Nat.{ℕ, _<_, _^_}
 use mathlib.Core.List.{[], _∷_, List}
@@ -12,11 +13,9 @@ use mir.Syntax.{call, return}
 use mir.Val.{Val, vunit, vint, vptr}
 use base.Logic.{SProp, ent, sep, id⊢}
 use base.Fml.{Lft, Share, GName, Fml, ftrue, flft, fobs, fbor}
-use prog.Memory.{Memory}
-use prog.Routine.{Routine}
 use prog.Wp.{Heap, Calls, Loops, WpFn, Tables}
 use ghost.Atoms.{Atoms, sem}
-use contract.Monad.{Fun, fact}
+use contract.Monad.{fact}
 use contract.Lifetimes.{AllOutlive}
 use types.Kit.{Given, ‵, raw, some, later, _⊛_, ⋆, _$_, _∵_, !, qed, by, move, keep, drop, use1, use3, split, join, pick, fsplit, fsplit3, fjoin, fjoin3, feqL, feqI, suffices, frame, await, done}
 use types.Run.{look, look-raw, store-raw, init, forget, stop, hop, fld, from, load, addr, unit-lit, of-opd, and-then, no-more, assigns, land, returns, enter, alloc1, alloc0, params1, pass1, pass0}
@@ -38,7 +37,7 @@ use denote.Triple.Entry.{onEntry}
 use denote.Triple.Spec.{Meets, tripleOf}
 use denote.Triple.Statement.{Contract, Triple}
 use denote.Triple.Call.{calls-at}
-use denote.Triple.Clauses.{ensured, lasts}
+use denote.Triple.Clauses.{Clauses, ensured, lasts, closing}
 use denote.Triple.Walked.{says, needs, Stays, stay-ref, stay-none-slice, gave-slice, stay-none, walkOf, goes-ref, goes-none-slice, goes-gave-slice, goes-none, Walks, ends-at, walked, walk-meets}
 use denote.Exit.{yes}
 use denote.Signature.{plain}
@@ -46,7 +45,7 @@ use Rattle.parser.specs.declared.Parser.{Parser}
 use Rattle.parser.proofs.Parser as T
 use Rattle.parser.proofs.Parser.Laws as T′
 use Rattle.parser.proofs.Lent.{Took, parser-local, ref-local, slice-local}
-use Rattle.parser.proofs.token_or_error as by-value
+use Rattle.parser.proofs.expected as by-value
 use Rattle.parser.proofs.Parser.expect as expect
 
 -- the function, over the name of the one that it calls: _0 the result, _1 to _5 the parameters, _6 what the call returns
@@ -88,11 +87,25 @@ stayed = (
   ),
 )
 
--- the contract of the function that is called
-abbrev pub By-value : {M : Type 1} (𝓤 : URA M) (H : Heap 𝓤) (A : Atoms 𝓤) (mem : Memory → SProp 𝓤) (run : Routine → Fun 𝓤) → Contract 𝓤
-By-value 𝓤 H A mem run = tripleOf 𝓤 H A by-value.signature (by-value.spec 𝓤 H A mem run)
+-- the contract of the function that is called, and the function's own, over the message for each kind
+abbrev pub by-value-clauses : (ℕ → ℕ) → {M : Type 1} (𝓤 : URA M) → Clauses 𝓤 by-value.ended
+by-value-clauses m 𝓤 κs a = record {
+  ghost = Unit {0};
+  requires = λ g. fact 𝓤 (a .1 .1 .1 .1 .0 < 256);
+  ensures = λ g r e. fact 𝓤 (Took (m (a .1 .1 .1 .1 .0)) (a .0 .now) (a .1 .0 .now) (a .1 .1 .1 .1 .0) (a .1 .1 .1 .0) (a .1 .1 .0 .now) r (e .1 .1 .0 .now));
+}
 
-module _ {M : Type 1} (𝓤 : URA M) (H : Heap 𝓤) (A : Atoms 𝓤) (W : Given 𝓤 H A) (at-mem : Memory → SProp 𝓤) (run : Routine → Fun 𝓤) (κ κ₁ κ₂ κ₃ : Lft)
+abbrev pub By-value : (ℕ → ℕ) → {M : Type 1} (𝓤 : URA M) (H : Heap 𝓤) (A : Atoms 𝓤) → Contract 𝓤
+By-value m 𝓤 H A = tripleOf 𝓤 H A by-value.signature (closing 𝓤 H A by-value.ended (by-value-clauses m 𝓤))
+
+abbrev pub lent-clauses : (ℕ → ℕ) → {M : Type 1} (𝓤 : URA M) → Clauses 𝓤 expect.ended
+lent-clauses m 𝓤 κs a = record {
+  ghost = Unit {0};
+  requires = λ g. fact 𝓤 (a .1 .1 .1 .1 .0 < 256);
+  ensures = λ g r e. fact 𝓤 (Took (m (a .1 .1 .1 .1 .0)) (a .1 .0 .now) (a .1 .1 .0 .now) (a .1 .1 .1 .1 .0) (a .0 .now) (a .1 .1 .1 .0 .now) (e .0 .now) (e .1 .1 .1 .0 .now));
+}
+
+module _ (m : ℕ → ℕ) {M : Type 1} (𝓤 : URA M) (H : Heap 𝓤) (A : Atoms 𝓤) (W : Given 𝓤 H A) (κ κ₁ κ₂ κ₃ : Lft)
     (bounds : AllOutlive 4 (expect.signature .outlives) (κ, (κ₁, (κ₂, (κ₃, tt))))) (q q₁ q₂ q₃ : Share) (b o : ℕ) (γ : GName) (p : Parser) (xs ts : RefT (List ℕ)) (b′ o′ : ℕ) (γ′ : GName)
     (ys : List ℕ) (k : ℕ) (k-fits : k < 2 ^ 32) (ok : k < 256) where
   abbrev es : RefT (List ℕ)
@@ -121,10 +134,10 @@ module _ {M : Type 1} (𝓤 : URA M) (H : Heap 𝓤) (A : Atoms 𝓤) (W : Given
   vals = (vptr b o ∷ [], (x ∷ [], (t ∷ [], (e ∷ [], (vint w32 k ∷ [], tt)))))
 
   abbrev Post : Val → SProp 𝓤
-  Post = walkOf 𝓤 H A expect.ended stayed (expect.clauses 𝓤 H A at-mem run) .post (((κ, (κ₁, (κ₂, (κ₃, tt)))), (q, (q₁, (q₂, (q₃, tt)))), bounds, a, vals), tt)
+  Post = walkOf 𝓤 H A expect.ended stayed (lent-clauses m 𝓤) .post (((κ, (κ₁, (κ₂, (κ₃, tt)))), (q, (q₁, (q₂, (q₃, tt)))), bounds, a, vals), tt)
 
   -- what the call's triple binds outside: the slices' own lifetimes, shares and values
-  abbrev to : By-value 𝓤 H A at-mem run .Ghost
+  abbrev to : By-value m 𝓤 H A .Ghost
   to = (((κ₁, (κ₂, (κ₃, tt))), (q₁, (q₂, (q₃, tt))), tt, (xs, (ts, (es, (p, (k, tt))))), (x ∷ [], (t ∷ [], (e ∷ [], (mach p ∷ [], (vint w32 k ∷ [], tt)))))), tt)
 
   abbrev Text : Fml
@@ -137,7 +150,7 @@ module _ {M : Type 1} (𝓤 : URA M) (H : Heap 𝓤) (A : Atoms 𝓤) (W : Given
   Events = MutSlice (named 3) κ₃ u32 .own es (e ∷ [])
 
   goes : Is T.the-row p (mach p ∷ []) → ent 𝓤 (sep 𝓤 (sep 𝓤 (sem 𝓤 H A Text) (sem 𝓤 H A Toks)) (sep 𝓤 (sep 𝓤 (A .lft κ₁ q₁) (sep 𝓤 (A .lft κ₂ q₂) (sep 𝓤 (A .lft κ₃ q₃) (sem 𝓤 H A ftrue))))
-      (sem 𝓤 H A Events))) (By-value 𝓤 H A at-mem run .pre to)
+      (sem 𝓤 H A Events))) (By-value m 𝓤 H A .pre to)
   goes was =
       qed W ((‵ Text ⊛ ‵ Toks) ∷ (‵ (flft κ₁ q₁) ⊛ ‵ (flft κ₂ q₂) ⊛ ‵ (flft κ₃ q₃) ⊛ ‵ ftrue) ∷ ‵ Events ∷ []) ∵ says ! ok $ move ! (1 ∷ []) $ frame ! $ split ! $
       -- [text; tokens; events]
@@ -145,13 +158,13 @@ module _ {M : Type 1} (𝓤 : URA M) (H : Heap 𝓤) (A : Atoms 𝓤) (W : Given
       owned ! T.the-row (Is T.the-row) (LL.makes T.the-type T′.the-plain 𝓤 H A) p _ was $ fjoin ! $
       move ! (3 ∷ 0 ∷ []) $ fjoin ! $ move ! (2 ∷ 0 ∷ []) $ fjoin ! $ move ! (1 ∷ 0 ∷ []) $ fjoin ! $ done !
 
-  exits : (r : Parser) (zs : List ℕ) → Took (xs .now) (ts .now) k p ys r zs → length zs ≡ length ys
+  exits : (r : Parser) (zs : List ℕ) → Took (m k) (xs .now) (ts .now) k p ys r zs → length zs ≡ length ys
       → ent 𝓤 (⋆ 𝓤 H A (‵ (fobs γ (T.the-row .coded .code r)) ∷ ‵ (fbor κ (Body (mem T.the-row) b o γ)) ∷ ‵ (flft κ q) ∷ (‵ (flft κ₁ q₁) ⊛ ‵ (flft κ₂ q₂) ⊛ ‵ (flft κ₃ q₃) ⊛ ‵ ftrue)
       ∷ ‵ (finally u32 γ′ zs) ∷ ‵ Toks ∷ ‵ Text ∷ [])) (Post vunit)
   exits r zs did l =
       qed W (‵ (fobs γ (T.the-row .coded .code r)) ∷ ‵ (fbor κ (Body (mem T.the-row) b o γ)) ∷ ‵ (flft κ q) ∷ (‵ (flft κ₁ q₁) ⊛ ‵ (flft κ₂ q₂) ⊛ ‵ (flft κ₃ q₃) ⊛ ‵ ftrue) ∷ ‵ (finally u32 γ′ zs)
       ∷ ‵ Toks ∷ ‵ Text ∷ []) ∵
-      suffices ! _ (ends-at 𝓤 H A expect.ended stayed (expect.clauses 𝓤 H A at-mem run) W (((κ, (κ₁, (κ₂, (κ₃, tt)))), (q, (q₁, (q₂, (q₃, tt)))), bounds, a, vals), tt) vunit tt
+      suffices ! _ (ends-at 𝓤 H A expect.ended stayed (lent-clauses m 𝓤) W (((κ, (κ₁, (κ₂, (κ₃, tt)))), (q, (q₁, (q₂, (q₃, tt)))), bounds, a, vals), tt) vunit tt
       (r, (tt, (tt, (zs, (tt, tt))))) (tt, (tt, (tt, (l, (tt, tt)))))) $ says ! did $
       move ! (2 ∷ 3 ∷ []) $ join ! $ frame ! $ feqI ! (List Val) (vptr b o ∷ []) (vptr b o ∷ []) refl $ fjoin3 ! $
       -- [what self owns; the last events; tokens; text]
@@ -159,7 +172,7 @@ module _ {M : Type 1} (𝓤 : URA M) (H : Heap 𝓤) (A : Atoms 𝓤) (W : Given
       move ! (2 ∷ 0 ∷ []) $ fjoin ! $ move ! (2 ∷ 0 ∷ []) $ fjoin ! $ move ! (2 ∷ 0 ∷ []) $ fjoin ! $ move ! (1 ∷ 0 ∷ []) $ fjoin ! $
       feqI ! (List Val) (vunit ∷ []) (vunit ∷ []) refl $ move ! (1 ∷ 0 ∷ []) $ done !
 
-  module _ (f : Name) (C : Calls 𝓤 H) (Λ : Loops 𝓤 H) (fm : FmC 𝓤 H (W .laws) C) (known : Triple 𝓤 (C f) (By-value 𝓤 H A at-mem run)) where
+  module _ (f : Name) (C : Calls 𝓤 H) (Λ : Loops 𝓤 H) (fm : FmC 𝓤 H (W .laws) C) (known : Triple 𝓤 (C f) (By-value m 𝓤 H A)) where
     walk : Room u8 (length (xs .now)) → Room u32 (length (ts .now)) → Room u32 (length ys)
         → ent 𝓤 (onEntry 𝓤 H A expect.signature (κ, (κ₁, (κ₂, (κ₃, tt)))) (q, (q₁, (q₂, (q₃, tt)))) a vals) (WpFn 𝓤 H C Λ (lent-function f) (vptr b o ∷ x ∷ t ∷ e ∷ vint w32 k ∷ []) Post)
     walk room-x room-t room =
@@ -183,17 +196,17 @@ module _ {M : Type 1} (𝓤 : URA M) (H : Heap 𝓤) (A : Atoms 𝓤) (W : Given
         move ! (6 ∷ []) $ fsplit ! $ use1 W (‵ Text ⊛ ‵ Text) (shr-slice-copy 𝓤 H A W (named 1) κ₁ u8 .twice xs (x ∷ [])) $ split ! $ move ! (2 ∷ []) $
         fsplit ! $ use1 W (‵ Toks ⊛ ‵ Toks) (shr-slice-copy 𝓤 H A W (named 2) κ₂ u32 .twice ts (t ∷ [])) $ split ! $ move ! (2 ∷ []) $ fsplit ! $
         -- [events; kind; tokens; tokens; text; text; the parser's cell; …; the slices' tokens; _9; …]
-        move ! (4 ∷ 2 ∷ []) $ join ! $ move ! (0 ∷ 10 ∷ 1 ∷ []) $ use3 W (raw (By-value 𝓤 H A at-mem run .pre to)) (goes was) $
+        move ! (4 ∷ 2 ∷ []) $ join ! $ move ! (0 ∷ 10 ∷ 1 ∷ []) $ use3 W (raw (By-value m 𝓤 H A .pre to)) (goes was) $
         -- [what the call asks; kind; tokens; text; the parser's cell; what it owned; the open borrow; obs; auth; _9; …]
-        calls-at ! fm (By-value 𝓤 H A at-mem run) known to (and-then ! (load ! (from ! (stop !)) (look ! 23 refl)) (and-then ! (load ! (from ! (stop !)) (look ! 21 refl))
+        calls-at ! fm (By-value m 𝓤 H A) known to (and-then ! (load ! (from ! (stop !)) (look ! 23 refl)) (and-then ! (load ! (from ! (stop !)) (look ! 21 refl))
         (and-then ! (load ! (from ! (stop !)) (look ! 11 refl)) (and-then ! (load ! (from ! (stop !)) (look ! 9 refl)) (and-then ! (load ! (from ! (stop !)) (look ! 17 refl)) (no-more !))))))
         (λ w.
         use1 W (later (some (λ (r : Parser). ((‵ (flft κ₁ q₁) ⊛ ‵ (flft κ₂ q₂) ⊛ ‵ (flft κ₃ q₃) ⊛ ‵ ftrue) ⊛ ‵ (T.the-row .own r (w ∷ [])))
-        ⊛ raw (ensured 𝓤 H A by-value.ended (by-value.clauses 𝓤 H A at-mem run) (κ₁, (κ₂, (κ₃, tt))) (xs, (ts, (es, (p, (k, tt))))) tt r)))) (id⊢ 𝓤 _) $ await ! tt $ pick ! (λ r.
+        ⊛ raw (ensured 𝓤 H A by-value.ended (by-value-clauses m 𝓤) (κ₁, (κ₂, (κ₃, tt))) (xs, (ts, (es, (p, (k, tt))))) tt r)))) (id⊢ 𝓤 _) $ await ! tt $ pick ! (λ r.
         -- what it ensures, at some last events
         split ! $ move ! (1 ∷ []) $ use1 W (some (λ (zs : Unit {0} × (Unit {0} × (List ℕ × (Unit {0} × (Unit {0} × Unit {0}))))).
-        ‵ (lasts by-value.ended (κ₁, (κ₂, (κ₃, tt))) (xs, (ts, (es, (p, (k, tt))))) zs) ⊛ raw (fact 𝓤 (Took (xs .now) (ts .now) k p ys r (zs .1 .1 .0))))) (id⊢ 𝓤 _) $ pick ! (λ zs.
-        split ! $ move ! (1 ∷ []) $ heard ! (Took (xs .now) (ts .now) k p ys r (zs .1 .1 .0)) (λ did. fsplit ! $ drop ! $ fsplit ! $ drop ! $ fsplit ! $ fsplit ! $ move ! (1 ∷ []) $ feqL ! (λ l.
+        ‵ (lasts by-value.ended (κ₁, (κ₂, (κ₃, tt))) (xs, (ts, (es, (p, (k, tt))))) zs) ⊛ raw (fact 𝓤 (Took (m k) (xs .now) (ts .now) k p ys r (zs .1 .1 .0))))) (id⊢ 𝓤 _) $ pick ! (λ zs.
+        split ! $ move ! (1 ∷ []) $ heard ! (Took (m k) (xs .now) (ts .now) k p ys r (zs .1 .1 .0)) (λ did. fsplit ! $ drop ! $ fsplit ! $ drop ! $ fsplit ! $ fsplit ! $ move ! (1 ∷ []) $ feqL ! (λ l.
         -- [the last events; …; the slices' tokens and the result; kind; …]
         move ! (2 ∷ []) $ split ! $ move ! (1 ∷ []) $ peeks ! T.the-row (Is T.the-row) (shows 𝓤 H A T.the-row) r (w ∷ []) (λ is.
         land ! (from ! (stop !)) (init ! 18 refl (LL.lawful T.the-type T′.the-laws 𝓤 H A W .typed r _ is .0)) $
@@ -209,10 +222,10 @@ module _ {M : Type 1} (𝓤 : URA M) (H : Heap 𝓤) (A : Atoms 𝓤) (W : Given
         move ! (18 ∷ 19 ∷ []) $ free1 ! $ move ! (16 ∷ 17 ∷ []) $ free1 ! $ move ! (14 ∷ 15 ∷ []) $ free1 ! $ move ! (12 ∷ 13 ∷ []) $ free1 ! $ move ! (10 ∷ 11 ∷ []) $ free1 ! $ free0 ! $
         keep ! (0 ∷ 1 ∷ 2 ∷ 3 ∷ 4 ∷ 7 ∷ 8 ∷ []) $ by ! (exits r (zs .1 .1 .0) did l)))))))))))))))))))
 
-module _ {M : Type 1} (𝓤 : URA M) (H : Heap 𝓤) (A : Atoms 𝓤) (W : Given 𝓤 H A) (mem : Memory → SProp 𝓤) (run : Routine → Fun 𝓤) where
-  walks : (f : Name) (C : Calls 𝓤 H) (Λ : Loops 𝓤 H) → FmC 𝓤 H (W .laws) C → Triple 𝓤 (C f) (By-value 𝓤 H A mem run) → Walks 𝓤 H A expect.ended stayed (WpFn 𝓤 H C Λ (lent-function f))
-      (expect.clauses 𝓤 H A mem run)
-  walks f C Λ fm known = walked 𝓤 H A expect.ended stayed (expect.clauses 𝓤 H A mem run) (WpFn 𝓤 H C Λ (lent-function f))
+module _ (m : ℕ → ℕ) {M : Type 1} (𝓤 : URA M) (H : Heap 𝓤) (A : Atoms 𝓤) (W : Given 𝓤 H A) where
+  walks : (f : Name) (C : Calls 𝓤 H) (Λ : Loops 𝓤 H) → FmC 𝓤 H (W .laws) C → Triple 𝓤 (C f) (By-value m 𝓤 H A) → Walks 𝓤 H A expect.ended stayed (WpFn 𝓤 H C Λ (lent-function f))
+      (lent-clauses m 𝓤)
+  walks f C Λ fm known = walked 𝓤 H A expect.ended stayed (lent-clauses m 𝓤) (WpFn 𝓤 H C Λ (lent-function f))
       (λ κs. (ptr-vals, (slice-vals, (slice-vals, (slice-vals, (uint-vals w32, tt))))))
       (λ κs. (
         mut-tells (named 0) (κs .0) T.the-row,
@@ -222,12 +235,12 @@ module _ {M : Type 1} (𝓤 : URA M) (H : Heap 𝓤) (A : Atoms 𝓤) (W : Given
         ),
       ))
       (λ κs qs bounds a g are. needs 𝓤 (a .1 .1 .1 .1 .0 < 256) _ (λ ok.
-      walk 𝓤 H A W mem run (κs .0) (κs .1 .0) (κs .1 .1 .0) (κs .1 .1 .1 .0) bounds (qs .0) (qs .1 .0) (qs .1 .1 .0) (qs .1 .1 .1 .0) (a .0 .ptr .0) (a .0 .ptr .1) (a .0 .name) (a .0 .now) (a .1 .0)
+      walk m 𝓤 H A W (κs .0) (κs .1 .0) (κs .1 .1 .0) (κs .1 .1 .1 .0) bounds (qs .0) (qs .1 .0) (qs .1 .1 .0) (qs .1 .1 .1 .0) (a .0 .ptr .0) (a .0 .ptr .1) (a .0 .name) (a .0 .now) (a .1 .0)
       (a .1 .1 .0) (a .1 .1 .1 .0 .ptr .0) (a .1 .1 .1 .0 .ptr .1) (a .1 .1 .1 .0 .name) (a .1 .1 .1 .0 .now) (a .1 .1 .1 .1 .0) (are .1 .1 .1 .1 .0 .1) ok f C Λ fm known (are .1 .0 .0 .1)
       (are .1 .1 .0 .0 .1) (are .1 .1 .1 .0 .0 .1)))
 
-  -- the function meets the contract of `Parser::expect`, whatever it calls that meets the contract by value
-  pub lent-meets : (f : Name) (𝓣 : Tables 𝓤 H) → Triple 𝓤 (𝓣 .C f) (By-value 𝓤 H A mem run) → Meets 𝓤 H A expect.signature (WpFn 𝓤 H (𝓣 .C) (𝓣 .Λ) (lent-function f)) (expect.spec 𝓤 H A mem run)
+  -- the function meets the contract, whatever it calls that meets the contract by value
+  pub lent-meets : (f : Name) (𝓣 : Tables 𝓤 H) → Triple 𝓤 (𝓣 .C f) (By-value m 𝓤 H A) → Meets 𝓤 H A expect.signature (WpFn 𝓤 H (𝓣 .C) (𝓣 .Λ) (lent-function f)) (closing 𝓤 H A expect.ended (lent-clauses m 𝓤))
   lent-meets f 𝓣 known =
       walk-meets 𝓤 H A expect.ended stayed W (
         goes-ref 𝓤 H A W 4 0 tt (plain (λ _. T.the-row)),
@@ -236,5 +249,5 @@ module _ {M : Type 1} (𝓤 : URA M) (H : Heap 𝓤) (A : Atoms 𝓤) (W : Given
           (goes-none-slice 𝓤 H A W 4 (2 ∷ []) tt (plain (λ _. u32)) yes, (goes-gave-slice 𝓤 H A W 4 3 tt (plain (λ _. u32)), (goes-none 𝓤 H A W 4 (λ _. u32) yes (λ κs x f. refl), tt))),
         ),
       )
-      (expect.clauses 𝓤 H A mem run)
+      (lent-clauses m 𝓤)
       (WpFn 𝓤 H (𝓣 .C) (𝓣 .Λ) (lent-function f)) (WpFn-mono 𝓤 H (W .laws) 𝓣 (lent-function f)) (walks f (𝓣 .C) (𝓣 .Λ) (fmOf 𝓤 H (W .laws) 𝓣) known)

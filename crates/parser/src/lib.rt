@@ -23,7 +23,7 @@ ghost use lib.ListN.{length, drop};
 ghost use lib.Dec.{ltb};
 ghost use Rattle.predictive.specs.Forest.{message};
 ghost use Rattle.predictive.specs.Grammar.{Choice, one, two, tok, opt, any};
-ghost use Rattle.predictive.specs.Reader.{expected};
+ghost use Rattle.predictive.specs.Reader.{expected, unmet};
 ghost use Rattle.predictive.specs.Events as E;
 ghost use Rattle.aadl.specs.Symbols as Sym;
 ghost use Rattle.aadl.specs.Encoding.{event-word, words-for};
@@ -456,7 +456,7 @@ pub fn bump_any(text: &[u8], toks: &[u32], events: &mut [u32], p: Parser) -> Par
 
 pub fn eat(text: &[u8], toks: &[u32], events: &mut [u32], p: Parser, kind: u32) -> Parser
     requires { ⌜ kind < 256 ⌝ }
-    ensures { λ r. ⌜ ((d : ℕ) (c : Choice) → Read (input (now (text .entry)) (now (toks .entry))) d (opt c (tok (expected kind) (kind ∷ []))) p (now (events .entry)) r (now (events .exit))) ⌝ }
+    ensures { λ r. ⌜ ((d : ℕ) (c : Choice) → Read (input (now (text .entry)) (now (toks .entry))) d (opt c (tok unmet (kind ∷ []))) p (now (events .entry)) r (now (events .exit))) ⌝ }
 {
     if at(text, toks, p, kind) {
         return bump_any(text, toks, events, p);
@@ -464,23 +464,39 @@ pub fn eat(text: &[u8], toks: &[u32], events: &mut [u32], p: Parser, kind: u32) 
     p
 }
 
-// The parser after the token of a kind where it stands, or after the message that it is missing.
-fn token_or_error(text: &[u8], toks: &[u32], events: &mut [u32], p: Parser, kind: u32) -> Parser
-    requires { ⌜ kind < 256 ⌝ }
-    ensures { λ r. ⌜ ((d : ℕ) → Read (input (now (text .entry)) (now (toks .entry))) d (tok (expected kind) (kind ∷ [])) p (now (events .entry)) r (now (events .exit))) ⌝ }
+// The parser after the token of a kind where it stands, or after a message.
+fn token_or_error(
+    text: &[u8],
+    toks: &[u32],
+    events: &mut [u32],
+    p: Parser,
+    kind: u32,
+    m: u32,
+) -> Parser
+    requires { ⌜ (kind < 256) × (m < 512) ⌝ }
+    ensures { λ r. ⌜ ((d : ℕ) → Read (input (now (text .entry)) (now (toks .entry))) d (tok m (kind ∷ [])) p (now (events .entry)) r (now (events .exit))) ⌝ }
 {
     if at(text, toks, p, kind) {
         return bump_any(text, toks, events, p);
     }
-    error(events, p, 256 + kind)
+    error(events, p, m)
 }
 
-// The Rust panics where the token does not stand; its callers have tested that it does.
-fn bumped(text: &[u8], toks: &[u32], events: &mut [u32], p: Parser, kind: u32) -> Parser
+// .. or after the message that it is missing.
+fn expected(text: &[u8], toks: &[u32], events: &mut [u32], p: Parser, kind: u32) -> Parser
     requires { ⌜ kind < 256 ⌝ }
     ensures { λ r. ⌜ ((d : ℕ) → Read (input (now (text .entry)) (now (toks .entry))) d (tok (expected kind) (kind ∷ [])) p (now (events .entry)) r (now (events .exit))) ⌝ }
 {
-    token_or_error(text, toks, events, p, kind)
+    token_or_error(text, toks, events, p, kind, 256 + kind)
+}
+
+// The Rust panics where the token does not stand. Here that is message 0, which no reading of a section has (theorem
+// `never-message-0`, aadl `NeverMissed`).
+fn bumped(text: &[u8], toks: &[u32], events: &mut [u32], p: Parser, kind: u32) -> Parser
+    requires { ⌜ kind < 256 ⌝ }
+    ensures { λ r. ⌜ ((d : ℕ) → Read (input (now (text .entry)) (now (toks .entry))) d (tok unmet (kind ∷ [])) p (now (events .entry)) r (now (events .exit))) ⌝ }
+{
+    token_or_error(text, toks, events, p, kind, 0)
 }
 
 // The parser is lent, and moves on: each copies it whole and stores what the function by value makes of it.
@@ -489,13 +505,13 @@ impl Parser {
         requires { ⌜ kind < 256 ⌝ }
         ensures { λ _. ⌜ ((d : ℕ) → Read (input (now (text .entry)) (now (toks .entry))) d (tok (expected kind) (kind ∷ [])) (now (self .entry)) (now (events .entry)) (now (self .exit)) (now (events .exit))) ⌝ }
     {
-        let next = token_or_error(text, toks, events, *self, kind);
+        let next = expected(text, toks, events, *self, kind);
         *self = next;
     }
 
     pub fn bump(&mut self, text: &[u8], toks: &[u32], events: &mut [u32], kind: u32)
         requires { ⌜ kind < 256 ⌝ }
-        ensures { λ _. ⌜ ((d : ℕ) → Read (input (now (text .entry)) (now (toks .entry))) d (tok (expected kind) (kind ∷ [])) (now (self .entry)) (now (events .entry)) (now (self .exit)) (now (events .exit))) ⌝ }
+        ensures { λ _. ⌜ ((d : ℕ) → Read (input (now (text .entry)) (now (toks .entry))) d (tok unmet (kind ∷ [])) (now (self .entry)) (now (events .entry)) (now (self .exit)) (now (events .exit))) ⌝ }
     {
         let next = bumped(text, toks, events, *self, kind);
         *self = next;
@@ -515,7 +531,7 @@ pub fn expect(text: &[u8], toks: &[u32], events: &mut [u32], p: Parser, kind: u3
 
 pub fn bump(text: &[u8], toks: &[u32], events: &mut [u32], p: Parser, kind: u32) -> Parser
     requires { ⌜ kind < 256 ⌝ }
-    ensures { λ r. ⌜ ((d : ℕ) → Read (input (now (text .entry)) (now (toks .entry))) d (tok (expected kind) (kind ∷ [])) p (now (events .entry)) r (now (events .exit))) ⌝ }
+    ensures { λ r. ⌜ ((d : ℕ) → Read (input (now (text .entry)) (now (toks .entry))) d (tok unmet (kind ∷ [])) p (now (events .entry)) r (now (events .exit))) ⌝ }
 {
     let mut q = p;
     q.bump(text, toks, events, kind);

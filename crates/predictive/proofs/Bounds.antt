@@ -10,7 +10,7 @@ use lib.Dec.{ltb}
 use borrow.Author.Tests.{not-true}
 use Rattle.predictive.specs.Forest.{Forest, nil, leaf, err, node, wrap, _then_, Fault, message, refusal}
 use Rattle.predictive.specs.Grammar.{Head, is, at, has, Form, row, row-in, broken, kinds-of, stand, longer, best, row-of, shape, Part, tok, pair, look, any, longest, wrong, fail, seq, either, opt, many, until, inside, suffix, leaning, before, opens, rule, Grammar}
-use Rattle.predictive.specs.Reader.{Result, miss, done, pick, after, firstly, beside, expected, take-one, take-two, take-look, take-any, take-form, take-wrong, repeat, lean, within, first, step, below, read}
+use Rattle.predictive.specs.Reader.{Result, miss, done, pick, after, firstly, beside, expected, unmet, take-one, take-two, take-look, take-any, take-form, take-wrong, repeat, lean, within, first, step, below, read}
 use Rattle.predictive.proofs.Tests.{_and_, left, right, or-neither}
 use Rattle.predictive.proofs.Faults.{faulty, amiss}
 use Rattle.predictive.proofs.Heads.{best-splits}
@@ -46,7 +46,7 @@ module _ (K : ℕ → Bool) (Q : Fault → Bool) where
   unfoldable pub part-fits : {R : Type 0} → Part R → Bool
   unfolding forms-fit
   part-fits (tok m ks) = M m
-  part-fits (pair k l) = M (expected k) and M (expected l)
+  part-fits (pair k l) = M unmet
   part-fits (look m ks l) = M m
   part-fits any = true
   part-fits (longest cs) = forms-fit cs
@@ -55,11 +55,11 @@ module _ (K : ℕ → Bool) (Q : Fault → Bool) where
   part-fits (seq p q) = part-fits p and part-fits q
   part-fits (either c p q) = part-fits p and part-fits q
   part-fits (opt c p) = part-fits p
-  part-fits (many p) = M 0 and part-fits p
-  part-fits (until k p) = M (expected k) and part-fits p
+  part-fits (many p) = M unmet and part-fits p
+  part-fits (until k p) = (M unmet and M (expected k)) and part-fits p
   part-fits (inside k p) = K k and part-fits p
   part-fits (suffix c k p q) = K k and (part-fits p and part-fits q)
-  part-fits (leaning k p q) = (K k and M 0) and (part-fits p and part-fits q)
+  part-fits (leaning k p q) = (K k and M unmet) and (part-fits p and part-fits q)
   part-fits (before hs p) = part-fits p
   part-fits (opens p) = part-fits p
   part-fits (rule r) = true
@@ -163,10 +163,10 @@ module _ (K : ℕ → Bool) (Q : Fault → Bool) where
     form-reads cs xs (some c) e f h =
         shape-fits c (drop (length (kinds-of c)) xs) (best-fits cs xs c f e) (subst Shown (best-splits cs xs c e) h)
 
-    module _ (body : List ℕ → Result) (body-fits : (xs : List ℕ) → Shown xs → FitsReading (body xs)) (hs : List Head) (zero-fits : M 0 ≡ true) where
+    module _ (body : List ℕ → Result) (body-fits : (xs : List ℕ) → Shown xs → FitsReading (body xs)) (hs : List Head) (unmet-fits : M unmet ≡ true) where
       repeat-fits : (n : ℕ) (xs : List ℕ) → Shown xs → FitsReading (repeat body hs n xs)
       unfolding repeat
-      repeat-fits zero xs h = missing-fits 0 xs zero-fits h
+      repeat-fits zero xs h = missing-fits unmet xs unmet-fits h
       repeat-fits (suc n) xs h =
           pick-fits (at hs xs) _ _
           (after-fits _ (λ f ys i. beside-fits f (i .forest) (repeat body hs n ys) (repeat-fits n ys (i .rest))) (body xs) (body-fits xs h))
@@ -174,7 +174,7 @@ module _ (K : ℕ → Bool) (Q : Fault → Bool) where
 
       lean-fits : (k n : ℕ) (f : Forest) (ys : List ℕ) → K k ≡ true → Fits f ys → FitsReading (lean body hs k n f ys)
       unfolding lean
-      lean-fits k zero f ys e h = record { forest = (e, h .forest, (zero-fits, tt), tt); rest = h .rest }
+      lean-fits k zero f ys e h = record { forest = (e, h .forest, (unmet-fits, tt), tt); rest = h .rest }
       lean-fits k (suc n) f ys e h =
           pick-fits (at hs ys) _ _
           (after-fits _ (λ g zs i. lean-fits k n (wrap k f g nil) zs e (record { forest = (e, h .forest, i .forest, tt); rest = i .rest })) (body ys) (body-fits ys (h .rest)))
@@ -190,8 +190,8 @@ module _ (K : ℕ → Bool) (Q : Fault → Bool) where
         step-fits (tok m ks) g xs h = one-fits m ks xs g h
         step-fits (pair k l) g xs h =
             after-fits _
-            (λ f ys i. beside-fits f (i .forest) (take-one (G .shown) (expected l) (l ∷ []) ys) (one-fits (expected l) (l ∷ []) ys (right _ _ g) (i .rest)))
-            (take-one (G .shown) (expected k) (k ∷ []) xs) (one-fits (expected k) (k ∷ []) xs (left _ _ g) h)
+            (λ f ys i. beside-fits f (i .forest) (take-one (G .shown) unmet (l ∷ []) ys) (one-fits unmet (l ∷ []) ys g (i .rest)))
+            (take-one (G .shown) unmet (k ∷ []) xs) (one-fits unmet (k ∷ []) xs g h)
         step-fits (look m ks l) g xs h = look-fits m ks l xs g h
         step-fits any g xs h = any-fits xs h
         step-fits (longest cs) g xs h = form-reads cs xs (best cs xs) refl g h
@@ -203,9 +203,9 @@ module _ (K : ℕ → Bool) (Q : Fault → Bool) where
         step-fits (opt c p) g xs h = pick-fits (at (first G p) xs) _ _ (step-fits p g xs h) (record { forest = tt; rest = h })
         step-fits (many p) g xs h = repeat-fits (λ ys. stepped p ys) (λ ys i. step-fits p (right _ _ g) ys i) (first G p) (left _ _ g) bound xs h
         step-fits (until k p) g xs h =
-            pick-fits (is k xs) _ _ (one-fits (expected k) (k ∷ []) xs (left _ _ g) h)
+            pick-fits (is k xs) _ _ (one-fits unmet (k ∷ []) xs (left _ _ (left _ _ g)) h)
             (after-fits _
-            (λ f ys i. beside-fits f (i .forest) (take-one (G .shown) (expected k) (k ∷ []) ys) (one-fits (expected k) (k ∷ []) ys (left _ _ g) (i .rest)))
+            (λ f ys i. beside-fits f (i .forest) (take-one (G .shown) (expected k) (k ∷ []) ys) (one-fits (expected k) (k ∷ []) ys (right _ _ (left _ _ g)) (i .rest)))
             (stepped p xs) (step-fits p (right _ _ g) xs h))
         step-fits (inside k p) g xs h =
             after-fits _ (λ f ys i. record { forest = (left _ _ g, i .forest, tt); rest = i .rest }) (stepped p xs) (step-fits p (right _ _ g) xs h)

@@ -13,7 +13,7 @@ use borrow.Author.Tests.{eq-eqb}
 use Rattle.predictive.specs.Forest.{Forest, nil, leaf, wrap}
 use Rattle.predictive.specs.Grammar.{Head, one, is, at, has, Form, kinds-of, shape, Part, many, leaning, Grammar}
 use Rattle.predictive.specs.Grammar.{Derives, Many, Leaning, d-tok, d-pair, d-look, d-any, d-any-end, d-longest, d-no-form, d-seq, d-left, d-right, d-some, d-none, d-many, d-until, d-at-once, d-inside, d-alone, d-with, d-leaning, d-before, d-opens, d-rule, m-nil, m-cons, l-one, l-more}
-use Rattle.predictive.specs.Reader.{Result, done, firstly, expected, take-one, take-two, take-look, take-any, take-form, repeat, lean, within, null, first, step, below, read}
+use Rattle.predictive.specs.Reader.{Result, done, firstly, expected, unmet, take-one, take-two, take-look, take-any, take-form, repeat, lean, within, null, first, step, below, read}
 use Rattle.predictive.specs.Events.{stops}
 use Rattle.predictive.proofs.Tests.{and-both, or-l, or-true-l}
 use Rattle.predictive.proofs.Faults.{amiss, amiss-after, amiss-firstly, keeps-beside, keeps-then, keeps-node, keeps-wrap, keeps-suffix, keeps-lean, keeps-lean-on, Agrees, excused, agree, agrees-after, agrees-firstly, agrees-first, agrees-second, agrees-done}
@@ -127,8 +127,8 @@ module _ (G : Grammar) (T : Tables G) (fine : Fine G T) where
           length xs < bound → (d : ℕ) → (d ≤ nest G a → E) → Gives E (stepped d p xs) f ys
       complete-step (d-tok {xs = xs} h i) g n l d w = agrees-first _ h (agrees-done xs i)
       complete-step (d-pair {k = k} {l = j} {ys = ys} i) g n l d w =
-          agrees-after _ (keeps-beside stops (take-one (G .shown) (expected j) (j ∷ []))) (gives-one (G .shown) (expected k) k (j ∷ ys))
-          (agrees-after _ (keeps-then stops (leaf (G .shown k) nil)) (gives-one (G .shown) (expected j) j ys) (agrees-done ys i))
+          agrees-after _ (keeps-beside stops (take-one (G .shown) unmet (j ∷ []))) (gives-one (G .shown) unmet k (j ∷ ys))
+          (agrees-after _ (keeps-then stops (leaf (G .shown k) nil)) (gives-one (G .shown) unmet j ys) (agrees-done ys i))
       complete-step (d-look {l = j} {xs = xs} h i) g n l d w = agrees-first _ (and-both _ _ h (eq-eqb j j refl)) (agrees-done (j ∷ xs) i)
       complete-step (d-any {xs = xs} i) g n l d w = agrees-done xs i
       complete-step d-any-end g n l d w = agree refl
@@ -154,13 +154,13 @@ module _ (G : Grammar) (T : Tables G) (fine : Fine G T) where
       complete-step (d-many a) g n l d w = complete-many a g n l d w bound l
       complete-step (d-until {k = k} {p = p} {f = f} {xs = xs} {ys = ys} a h) g n l d w =
           let s = stands (begins G T fine a) (good-until g .begun) in
-          agrees-second (take-one (G .shown) (expected k) (k ∷ []) xs)
+          agrees-second (take-one (G .shown) unmet (k ∷ []) xs)
           (or-l (is k xs) false (disjoint-excludes (first G p) (one k ∷ []) xs (good-until g .told) s))
           (agrees-after _ (keeps-beside stops (take-one (G .shown) (expected k) (k ∷ [])))
           (complete-step a (good-until g .part)
           (disjoint-excludes (one k ∷ []) (end p) (k ∷ ys) (good-until g .apart) (has-one k)) l d (λ o. w (omega arith)))
           (agrees-after _ (keeps-then stops f) (gives-one (G .shown) (expected k) k ys) (agrees-done ys h)))
-      complete-step (d-at-once {k = k} {ys = ys} i) g n l d w = agrees-first _ (eq-eqb k k refl) (rw i (gives-one (G .shown) (expected k) k ys))
+      complete-step (d-at-once {k = k} {ys = ys} i) g n l d w = agrees-first _ (eq-eqb k k refl) (rw i (gives-one (G .shown) unmet k ys))
       complete-step (d-inside {k = k} a) g n l d w =
           agrees-after _ (keeps-node stops k) (complete-step a (good-inside g) n l d (λ o. w (omega arith))) (agree refl)
       complete-step (d-alone {c = c} {k = k} {p = p} {q = q} {ys = ys} a m) g n l d w =

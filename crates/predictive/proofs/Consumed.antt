@@ -33,7 +33,7 @@ unfolding leaves
 count-row shown [] f = omega arith
 count-row shown (k ∷ ks) f = omega (arith, count-row shown ks f)
 
-count-shape : (shown : ℕ → ℕ) (c : Form) → count (shape shown c) ≡ length (kinds-of c)
+pub count-shape : (shown : ℕ → ℕ) (c : Form) → count (shape shown c) ≡ length (kinds-of c)
 unfolding leaves
 count-shape shown (row ks) = omega (arith, count-row shown ks nil)
 count-shape shown (row-in k ks) = omega (arith, count-node k (row-of shown ks nil), count-row shown ks nil)

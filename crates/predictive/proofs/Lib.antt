@@ -14,8 +14,8 @@ pub mod Relabel
 pub mod EventLaws
 pub mod Takes
 pub mod Bounds
-pub mod Replaced
 pub mod Spell
 pub mod Consumed
 pub mod Absent
+pub mod Unmet
 pub mod Examples

@@ -10,7 +10,7 @@ use mathlib.Core.Option.{Option, none, some}
 use lib.ListN.{length, drop}
 use Rattle.predictive.specs.Forest.{Forest, nil, leaf, err, node, wrap, _then_, Fault, message, leaves}
 use Rattle.predictive.specs.Grammar.{Head, is, at, has, Form, row, row-in, broken, kinds-of, best, row-of, shape, Part, tok, pair, look, any, longest, wrong, fail, seq, either, opt, many, until, inside, suffix, leaning, before, opens, rule, Grammar}
-use Rattle.predictive.specs.Reader.{Result, miss, done, pick, after, firstly, beside, expected, take-one, take-two, take-look, take-any, take-form, take-wrong, unfinished, repeat, lean, within, first, step, below, read}
+use Rattle.predictive.specs.Reader.{Result, miss, done, pick, after, firstly, beside, expected, unmet, take-one, take-two, take-look, take-any, take-form, take-wrong, unfinished, repeat, lean, within, first, step, below, read}
 use Rattle.predictive.proofs.Tests.{never, left, right}
 use Rattle.predictive.proofs.Heads.{best-splits}
 use Rattle.predictive.proofs.Lookahead.{single, good, Tables, Fine, good-before, good-either, good-leaning, good-many, good-opt, good-seq, good-suffix, good-until, Good, good-inside, good-opens, good-rule}
@@ -134,8 +134,8 @@ module _ (G : Grammar) (Q : Forest → List ℕ → List ℕ → Type 0) (closed
   has-two : (k l : ℕ) (xs : List ℕ) → Has xs (take-two (G .shown) k l xs)
   unfolding take-two
   has-two k l xs =
-      has-after xs xs _ (λ f ys q. has-beside xs ys f q (take-one (G .shown) (expected l) (l ∷ []) ys) (has-one (expected l) (l ∷ []) ys))
-      (take-one (G .shown) (expected k) (k ∷ []) xs) (has-one (expected k) (k ∷ []) xs)
+      has-after xs xs _ (λ f ys q. has-beside xs ys f q (take-one (G .shown) unmet (l ∷ []) ys) (has-one unmet (l ∷ []) ys))
+      (take-one (G .shown) unmet (k ∷ []) xs) (has-one unmet (k ∷ []) xs)
 
   has-look : (m : ℕ) (ks : List ℕ) (l : ℕ) (xs : List ℕ) → Has xs (take-look (G .shown) m ks l xs)
   unfolding take-look
@@ -174,7 +174,7 @@ module _ (G : Grammar) (Q : Forest → List ℕ → List ℕ → Type 0) (closed
   module _ (body : List ℕ → Result) (body-has : (xs : List ℕ) → Has xs (body xs)) (hs : List Head) where
     has-repeat : (n : ℕ) (xs : List ℕ) → Has xs (repeat body hs n xs)
     unfolding repeat
-    has-repeat zero xs = closed .on-err (message 0) xs
+    has-repeat zero xs = closed .on-err (message unmet) xs
     has-repeat (suc n) xs =
         has-pick xs (at hs xs) _ _
         (λ a. has-after xs xs _ (λ f ys q. has-beside xs ys f q (repeat body hs n ys) (has-repeat n ys)) (body xs) (body-has xs))
@@ -183,7 +183,7 @@ module _ (G : Grammar) (Q : Forest → List ℕ → List ℕ → Type 0) (closed
     -- f was read from xs, and the loop is at ys
     has-lean : (xs : List ℕ) (k n : ℕ) (f : Forest) (ys : List ℕ) → Whole f → Q f xs ys → Has xs (lean body hs k n f ys)
     unfolding lean
-    has-lean xs k zero f ys w q = closed .on-wrap k f unfinished xs ys ys w q (closed .on-err (message 0) ys)
+    has-lean xs k zero f ys w q = closed .on-wrap k f unfinished xs ys ys w q (closed .on-err (message unmet) ys)
     has-lean xs k (suc n) f ys w q =
         has-pick xs (at hs ys) _ _
         (λ a. has-after xs ys _ (λ g zs i. has-lean xs k n (wrap k f g nil) zs whole-wrap (closed .on-wrap k f g xs ys zs w q i)) (body ys) (body-has ys))
@@ -213,7 +213,7 @@ module _ (G : Grammar) (Q : Forest → List ℕ → List ℕ → Type 0) (closed
       step-has (many p) g xs = has-repeat (λ ys. stepped p ys) (λ ys. step-has p (good-many g .part) ys) (first G p) bound xs
       step-has (until k p) g xs =
           has-pick xs (is k xs) _ _
-          (λ a. has-one (expected k) (k ∷ []) xs)
+          (λ a. has-one unmet (k ∷ []) xs)
           (λ a. has-after xs xs _
           (λ f ys i. has-beside xs ys f i (take-one (G .shown) (expected k) (k ∷ []) ys) (has-one (expected k) (k ∷ []) ys))
           (stepped p xs) (step-has p (good-until g .part) xs))

@@ -12,7 +12,7 @@ use borrow.Author.Tests.{eqb-true}
 use Rattle.predictive.specs.Forest.{Forest, nil, leaf, err, wrap, _then_, message}
 use Rattle.predictive.specs.Grammar.{Head, is, starts, at, has, Form, row, row-in, broken, best, Choice, free, unless, May, Part, tok, pair, look, any, longest, wrong, fail, seq, either, opt, many, until, inside, suffix, leaning, before, opens, rule, Grammar}
 use Rattle.predictive.specs.Grammar.{Derives, Many, Leaning, d-tok, d-pair, d-look, d-any, d-any-end, d-longest, d-no-form, d-seq, d-left, d-right, d-some, d-none, d-many, d-until, d-at-once, d-inside, d-alone, d-with, d-leaning, d-before, d-opens, d-rule, m-nil, m-cons, l-one, l-more}
-use Rattle.predictive.specs.Reader.{Result, miss, done, pick, after, firstly, beside, expected, take-one, take-two, take-look, take-any, take-form, take-wrong, unfinished, repeat, lean, within, first, step, below, read}
+use Rattle.predictive.specs.Reader.{Result, miss, done, pick, after, firstly, beside, expected, unmet, take-one, take-two, take-look, take-any, take-form, take-wrong, unfinished, repeat, lean, within, first, step, below, read}
 use Rattle.predictive.specs.Events.{any-fault}
 use Rattle.predictive.proofs.Tests.{never, and-l, and-r, or-cases, left, right}
 use Rattle.predictive.proofs.Faults.{faulty, amiss, Keeps, faulty-then-l, faulty-row, faulty-node, faulty-wrap-r, keeps-beside, keeps-then, keeps-node, keeps-wrap, keeps-suffix, keeps-lean, keeps-lean-on}
@@ -154,11 +154,11 @@ module _ (G : Grammar) (T : Tables G) (fine : Fine G T) (bound : ℕ) where
     pair-known : (k l : ℕ) (xs : List ℕ) → If-clean (Known (pair k l) xs) (take-two (G .shown) k l xs)
     unfolding take-two shuts
     pair-known k l xs =
-        clean-after _ (Known (pair k l) xs) _ (keeps-beside any-fault (take-one (G .shown) (expected l) (l ∷ [])))
+        clean-after _ (Known (pair k l) xs) _ (keeps-beside any-fault (take-one (G .shown) unmet (l ∷ [])))
         (λ f ys r. clean-beside _ (Known (pair k l) xs) f
         (λ g zs i. record { derives = rw (r .1, i .1) (d-pair (λ j. (r .0 j) then (i .0 j))); shut = λ b h e s. never e })
-        (take-one (G .shown) (expected l) (l ∷ []) ys) (take-this-clean (G .shown) (expected l) l ys))
-        (take-one (G .shown) (expected k) (k ∷ []) xs) (take-this-clean (G .shown) (expected k) k xs)
+        (take-one (G .shown) unmet (l ∷ []) ys) (take-this-clean (G .shown) unmet l ys))
+        (take-one (G .shown) unmet (k ∷ []) xs) (take-this-clean (G .shown) unmet k xs)
 
     look-known : (m : ℕ) (ks : List ℕ) (l : ℕ) (xs : List ℕ) → If-clean (Known (look m ks l) xs) (take-look (G .shown) m ks l xs)
     unfolding take-look shuts
@@ -229,7 +229,7 @@ module _ (G : Grammar) (T : Tables G) (fine : Fine G T) (bound : ℕ) where
         clean-pick (Known (until k p) xs) (is k xs) _ _
         (λ a. clean-map _ _
         (λ f ys r. record { derives = rw (r .1) (d-at-once (r .0)); shut = λ b h e s. never e })
-        (take-one (G .shown) (expected k) (k ∷ []) xs) (take-this-clean (G .shown) (expected k) k xs))
+        (take-one (G .shown) unmet (k ∷ []) xs) (take-this-clean (G .shown) unmet k xs))
         (λ a. clean-after (Known p xs) (Known (until k p) xs) _ (keeps-beside any-fault (take-one (G .shown) (expected k) (k ∷ [])))
         (λ f ys r. clean-beside _ (Known (until k p) xs) f
         (λ f' zs i. record { derives = d-until (rw (i .1) at (r .derives)) (ap (λ (t : Forest). f then t) (i .0)); shut = λ b h e s. never e })

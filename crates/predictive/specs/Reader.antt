@@ -80,6 +80,11 @@ only false hs = []
 abbrev pub expected : ℕ → ℕ
 expected k = 256 + k
 
+-- the message of what no reading meets (proofs `Unmet`): a token is missing that is taken only where it stands, or a loop
+-- goes on past its bound
+abbrev pub unmet : ℕ
+unmet = 0
+
 module _ (shown : ℕ → ℕ) where
   unfoldable pub take-one : ℕ → List ℕ → List ℕ → Result
   take-one m ks [] = done (err (message m) nil) []
@@ -87,7 +92,7 @@ module _ (shown : ℕ → ℕ) where
 
   unfoldable pub take-two : ℕ → ℕ → List ℕ → Result
   unfolding take-one
-  take-two k l xs = after (take-one (expected k) (k ∷ []) xs) (λ f ys. beside f (take-one (expected l) (l ∷ []) ys))
+  take-two k l xs = after (take-one unmet (k ∷ []) xs) (λ f ys. beside f (take-one unmet (l ∷ []) ys))
 
   unfoldable pub take-look : ℕ → List ℕ → ℕ → List ℕ → Result
   take-look m ks l [] = done (err (message m) nil) []
@@ -105,9 +110,9 @@ module _ (shown : ℕ → ℕ) where
   take-wrong k m [] = miss (message m) []
   take-wrong k m (x ∷ xs) = done (node k (err (message m) (leaf (shown x) nil)) nil) xs
 
--- a loop that has met its bound; more turns than symbols, and one, are never made
+-- a loop that has met its bound
 abbrev pub unfinished : Forest
-unfinished = err (message 0) nil
+unfinished = err (message unmet) nil
 
 unfoldable pub repeat : (List ℕ → Result) → List Head → ℕ → List ℕ → Result
 repeat body hs zero xs = done unfinished xs
@@ -172,7 +177,7 @@ module _ (G : Grammar) where
     step d inner (many p) xs = repeat (λ ys. step d inner p ys) (first p) bound xs
     step d inner (until k p) xs =
         let r = after (step d inner p xs) (λ f ys. beside f (take-one (G .shown) (expected k) (k ∷ []) ys)) in
-        pick (is k xs) (take-one (G .shown) (expected k) (k ∷ []) xs) r
+        pick (is k xs) (take-one (G .shown) unmet (k ∷ []) xs) r
     step d inner (inside k p) xs = after (step d inner p xs) (λ f ys. done (node k f nil) ys)
     step d inner (suffix c k p q) xs =
         firstly (step d inner p xs) (λ f ys.

@@ -6,7 +6,7 @@ use mathlib.Core.List.{List, [], _∷_}
 use lib.Dec.{eqb}
 use Rattle.predictive.specs.Forest.{nil, err, message}
 use Rattle.predictive.specs.Grammar.{is, at, has, any, pair, tok}
-use Rattle.predictive.specs.Reader.{done, expected, ones, twos, first, take-any, take-one, take-two, take-look, step, below, read}
+use Rattle.predictive.specs.Reader.{done, unmet, ones, twos, first, take-any, take-one, take-two, take-look, step, below, read}
 use Rattle.predictive.specs.Events.{error}
 use Rattle.predictive.proofs.Tests.{never, or-l, or-r}
 use Rattle.predictive.proofs.Heads.{at-twos}
@@ -22,8 +22,8 @@ use Rattle.parser.proofs.Taking.{r-message}
 
 -- Two words in a row are one after the other.
 pub r-two : {inp : Input} {d k l : ℕ} {p : Parser} {b : List ℕ} {q : Parser} {c : List ℕ} {r : Parser} {e : List ℕ} →
-    Read inp d (tok (expected k) (k ∷ [])) p b q c →
-    Read inp d (tok (expected l) (l ∷ [])) q c r e → Read inp d (pair k l) p b r e
+    Read inp d (tok unmet (k ∷ [])) p b q c →
+    Read inp d (tok unmet (l ∷ [])) q c r e → Read inp d (pair k l) p b r e
 unfolding read step take-two
 r-two x y = r-same (λ n h. refl) (r-seq x y)
 

@@ -103,7 +103,7 @@ fn first_name(text: &[u8], toks: &[u32], events: &mut [u32], p: Parser) -> Parse
 
 // `::` and a name, if `::` stands.
 fn name_in_set(text: &[u8], toks: &[u32], events: &mut [u32], p: Parser) -> Parser
-    ensures { λ r. ⌜ ((d : ℕ) → Read (input (now (text .entry)) (now (toks .entry))) d (maybe (seq (G.token K.COLON-COLON) (G.property-name 2))) p (now (events .entry)) r (now (events .exit))) ⌝ }
+    ensures { λ r. ⌜ ((d : ℕ) → Read (input (now (text .entry)) (now (toks .entry))) d (maybe (seq (G.begun K.COLON-COLON) (G.property-name 2))) p (now (events .entry)) r (now (events .exit))) ⌝ }
 {
     if at(text, toks, p, COLON_COLON) {
         let p = bump(text, toks, events, p, COLON_COLON);

@@ -65,7 +65,7 @@ below n pre t = and 3 ps (falls 3 ps _<_ (openers-left n) t) pre
 
 abbrev binding-items-Inv-loop : binding-items-lts.InvT-loop
 binding-items-Inv-loop text toks events₀ q₀ events q =
-    Turning (input text toks) (suc (q₀ .left)) (seq (G.token COMMA) (G.binding any)) q₀ events₀ q events
+    Turning (input text toks) (suc (q₀ .left)) (seq (G.begun COMMA) (G.binding any)) q₀ events₀ q events
 
 abbrev binding-items-μ-loop : binding-items-lts.MeasureT-loop
 binding-items-μ-loop text toks events₀ q₀ events q = μ (input text toks) q
@@ -117,7 +117,7 @@ binding-items-done t =
     let at-bump = at-prototype-binding2 .before .before .before .before in
     let at-if2 = at-bump .before .before in
     let at-at = at-if2 .before in
-    w-less {P = seq (G.token COMMA) (G.binding any)} refl (sym (at-at .at .ensures) ∙ at-if2 .if2 .taken)
+    w-less {P = seq (G.begun COMMA) (G.binding any)} refl (sym (at-at .at .ensures) ∙ at-if2 .if2 .taken)
     (seq-at suc (at-bump .bump .ensures _) (at-prototype-binding2 .prototype-binding2 .ensures)))
     (λ c.
     let at-prototype-binding2 = c .before .before in

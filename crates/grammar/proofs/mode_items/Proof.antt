@@ -15,7 +15,7 @@ use Rattle.grammar.proofs.mode_items.Statement.{statement}
 use Rattle.grammar.proofs.mode_items.Tie as tie
 
 abbrev Inv-loop : tie.InvT-loop
-Inv-loop text toks events₀ q₀ events q = (d : ℕ) → Turning (input text toks) d (seq (G.token COMMA) (opt free G.mode)) q₀ events₀ q events
+Inv-loop text toks events₀ q₀ events q = (d : ℕ) → Turning (input text toks) d (seq (G.begun COMMA) (opt free G.mode)) q₀ events₀ q events
 
 abbrev μ-loop : tie.MeasureT-loop
 μ-loop text toks events₀ q₀ events q = μ (input text toks) q
@@ -30,7 +30,7 @@ loop-less c =
     let at-bump = at-mode-or-mapping2 .before .before .before .before in
     let at-if2 = at-bump .before .before in
     let at-at = at-if2 .before in
-    w-less {P = seq (G.token COMMA) (opt free G.mode)} refl (sym (at-at .at .ensures) ∙ at-if2 .if2 .taken)
+    w-less {P = seq (G.begun COMMA) (opt free G.mode)} refl (sym (at-at .at .ensures) ∙ at-if2 .if2 .taken)
     (r-seq (at-bump .bump .ensures 0) (at-mode-or-mapping2 .mode-or-mapping2 .ensures 0))
 
 loop-again : tie.Need-loop-again Inv-loop μ-loop

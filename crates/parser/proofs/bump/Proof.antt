@@ -2,6 +2,7 @@
 use contract.Running.{givenOf, tables, tablesOf}
 use denote.Triple.Spec.{tripleOf}
 use denote.Triple.Table.{entered, cited}
+use Rattle.predictive.specs.Reader.{unmet}
 use Rattle.parser.proofs.ByValueWalk.{Lent, by-value-meets}
 use Rattle.parser.proofs.Parser.bump.Symbol as called
 use Rattle.parser.proofs.Parser.bump.Met as called-thm
@@ -15,5 +16,5 @@ unfolding code.routine tablesOf
 bump-spec 𝓤 H 𝓜 𝓖 𝓡 =
     entered 𝓤 H (tripleOf 𝓤 H (𝓖 .A) bump.signature (bump.spec 𝓤 H (𝓖 .A) (𝓜 .mem) (𝓡 .run)))
     (tables 𝓤 H 𝓜 𝓡 code.env .C) (tables 𝓤 H 𝓜 𝓡 code.env .Λ) #parser·bump code.function (code.unfolded 𝓤 H 𝓜 𝓡)
-    (by-value-meets 𝓤 H (𝓖 .A) (givenOf 𝓤 H 𝓜 𝓖) (𝓜 .mem) (𝓡 .run) called.name (tablesOf 𝓤 H 𝓜 (tables 𝓤 H 𝓜 𝓡 code.env))
-    (cited 𝓤 H (Lent 𝓤 H (𝓖 .A) (𝓜 .mem) (𝓡 .run)) 𝓜 𝓡 code.env called.name called.routine code.calls-parser·Parser·bump (called-thm.met 𝓤 H 𝓜 𝓖 𝓡)))
+    (by-value-meets (λ k. unmet) 𝓤 H (𝓖 .A) (givenOf 𝓤 H 𝓜 𝓖) called.name (tablesOf 𝓤 H 𝓜 (tables 𝓤 H 𝓜 𝓡 code.env))
+    (cited 𝓤 H (Lent (λ k. unmet) 𝓤 H (𝓖 .A)) 𝓜 𝓡 code.env called.name called.routine code.calls-parser·Parser·bump (called-thm.met 𝓤 H 𝓜 𝓖 𝓡)))

@@ -1,4 +1,4 @@
--- The token where it stands, else its message (Taking). Assumes nothing.
+-- The token where it stands, else the message (Taking). Assumes nothing.
 use mathlib.Core.Path.{sym, _∙_}
 use borrow.Author.Needs.{needs}
 use Rattle.predictive.specs.Reader.{ones}
@@ -17,4 +17,4 @@ returns-2 c = λ d. r-tok-no (sym (c .before .before .before .before .before .at
 pub token-or-error-spec : {M : Type 1} → statement M
 token-or-error-spec =
     tie.close
-    (tie.spec (λ c κs. search needs) (λ c κs. search needs) (λ c. search needs) returns (λ c. search needs) (λ c κs. search needs) (λ c. search needs) returns-2)
+    (tie.spec (λ c κs. search needs) (λ c κs. search needs) (λ c. search needs) returns (λ c κs. search needs) (λ c. search needs) returns-2)

@@ -15,7 +15,7 @@ use Rattle.properties.proofs.paths.Statement.{statement}
 use Rattle.properties.proofs.paths.Tie as tie
 
 abbrev Inv-loop : tie.InvT-loop
-Inv-loop text toks events₀ q₀ events q = (d : ℕ) → Due (input text toks) d G.path (G.token COMMA) q₀ events₀ q events
+Inv-loop text toks events₀ q₀ events q = (d : ℕ) → Due (input text toks) d G.path (G.begun COMMA) q₀ events₀ q events
 
 abbrev μ-loop : tie.MeasureT-loop
 μ-loop text toks events₀ q₀ events q = μ (input text toks) q
@@ -38,7 +38,7 @@ loop-less c =
     let at-if1 = at-bump .before .before in
     let at-at = at-if1 .before in
     let at-path = at-at .before .before .before in
-    let d : ℕ = 0 in due-less {S = G.token COMMA} refl (at-path .containment-path .ensures d) (sym (at-at .at .ensures) ∙ not-false (at-at .at .result) (at-if1 .if1 .left))
+    let d : ℕ = 0 in due-less {S = G.begun COMMA} refl (at-path .containment-path .ensures d) (sym (at-at .at .ensures) ∙ not-false (at-at .at .result) (at-if1 .if1 .left))
     (at-bump .bump .ensures d)
 
 loop-again : tie.Need-loop-again Inv-loop μ-loop

@@ -14,7 +14,7 @@ use Rattle.properties.proofs.property_values.Statement.{statement}
 use Rattle.properties.proofs.property_values.Tie as tie
 
 abbrev Inv-loop : tie.InvT-loop
-Inv-loop text toks events₀ v₀ events v = Due (input text toks) (v₀ .left) G.value (G.token COMMA) v₀ events₀ v events
+Inv-loop text toks events₀ v₀ events v = Due (input text toks) (v₀ .left) G.value (G.begun COMMA) v₀ events₀ v events
 
 abbrev μ-loop : tie.MeasureT-loop
 μ-loop text toks events₀ v₀ events v = μ (input text toks) v
@@ -37,7 +37,7 @@ loop-less c =
     let at-if1 = at-bump .before .before in
     let at-at = at-if1 .before in
     let at-value = at-at .before .before .before in
-    due-less {S = G.token COMMA} refl (at-value .property-value .ensures) (sym (at-at .at .ensures) ∙ not-false (at-at .at .result) (at-if1 .if1 .left)) (at-bump .bump .ensures _)
+    due-less {S = G.begun COMMA} refl (at-value .property-value .ensures) (sym (at-at .at .ensures) ∙ not-false (at-at .at .result) (at-if1 .if1 .left)) (at-bump .bump .ensures _)
 
 loop-again : tie.Need-loop-again Inv-loop μ-loop
 unfolding ones first null takes

@@ -17,7 +17,7 @@ use Rattle.values.proofs.segments.Statement.{statement}
 use Rattle.values.proofs.segments.Tie as tie
 
 abbrev Inv-loop : tie.InvT-loop
-Inv-loop text toks events₀ q₀ events q = (d : ℕ) → Due (input text toks) d (maybe G.segment) (G.token DOT) q₀ events₀ q events
+Inv-loop text toks events₀ q₀ events q = (d : ℕ) → Due (input text toks) d (maybe G.segment) (G.begun DOT) q₀ events₀ q events
 
 abbrev μ-loop : tie.MeasureT-loop
 μ-loop text toks events₀ q₀ events q = μ (input text toks) q
@@ -45,7 +45,7 @@ loop-less c =
     let at-if2 = at-bump .before .before in
     let at-at2 = at-if2 .before in
     let at-segment = at-at2 .before .before .before in
-    let d : ℕ = 0 in due-less {S = G.token DOT} refl (at-segment .segment .ensures d) (sym (at-at2 .at2 .ensures) ∙ not-false (at-at2 .at2 .result) (at-if2 .if2 .left))
+    let d : ℕ = 0 in due-less {S = G.begun DOT} refl (at-segment .segment .ensures d) (sym (at-at2 .at2 .ensures) ∙ not-false (at-at2 .at2 .result) (at-if2 .if2 .left))
     (at-bump .bump .ensures d)
 
 loop-again : tie.Need-loop-again Inv-loop μ-loop

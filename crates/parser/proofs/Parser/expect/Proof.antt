@@ -1,10 +1,11 @@
--- A walk (LentWalk), at `token_or_error`. Assumes nothing.
+-- A walk (LentWalk), at `expected`. Assumes nothing.
 use contract.Running.{givenOf, tables, tablesOf}
 use denote.Triple.Spec.{tripleOf}
 use denote.Triple.Table.{entered, cited}
+use Rattle.predictive.specs.Reader.{expected}
 use Rattle.parser.proofs.LentWalk.{By-value, lent-meets}
-use Rattle.parser.proofs.token_or_error.Symbol as called
-use Rattle.parser.proofs.token_or_error.Met as called-thm
+use Rattle.parser.proofs.expected.Symbol as called
+use Rattle.parser.proofs.expected.Met as called-thm
 use Rattle.parser.proofs.Parser.expect as expect
 use Rattle.parser.proofs.Parser.expect.Key.{name as #parser·Parser·expect}
 use Rattle.parser.proofs.Parser.expect.Statement as stated
@@ -15,5 +16,5 @@ unfolding code.routine tablesOf
 expect-spec 𝓤 H 𝓜 𝓖 𝓡 =
     entered 𝓤 H (tripleOf 𝓤 H (𝓖 .A) expect.signature (expect.spec 𝓤 H (𝓖 .A) (𝓜 .mem) (𝓡 .run)))
     (tables 𝓤 H 𝓜 𝓡 code.env .C) (tables 𝓤 H 𝓜 𝓡 code.env .Λ) #parser·Parser·expect code.function (code.unfolded 𝓤 H 𝓜 𝓡)
-    (lent-meets 𝓤 H (𝓖 .A) (givenOf 𝓤 H 𝓜 𝓖) (𝓜 .mem) (𝓡 .run) called.name (tablesOf 𝓤 H 𝓜 (tables 𝓤 H 𝓜 𝓡 code.env))
-    (cited 𝓤 H (By-value 𝓤 H (𝓖 .A) (𝓜 .mem) (𝓡 .run)) 𝓜 𝓡 code.env called.name called.routine code.calls-parser·token-or-error (called-thm.met 𝓤 H 𝓜 𝓖 𝓡)))
+    (lent-meets expected 𝓤 H (𝓖 .A) (givenOf 𝓤 H 𝓜 𝓖) called.name (tablesOf 𝓤 H 𝓜 (tables 𝓤 H 𝓜 𝓡 code.env))
+    (cited 𝓤 H (By-value expected 𝓤 H (𝓖 .A)) 𝓜 𝓡 code.env called.name called.routine code.calls-parser·expected (called-thm.met 𝓤 H 𝓜 𝓖 𝓡)))
