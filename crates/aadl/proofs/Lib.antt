@@ -32,6 +32,7 @@ pub mod EventTokens
 pub mod RecordsUpwards
 pub mod Computing
 pub mod Examples
+pub mod FormExamples
 pub mod RecordExamples
 pub mod ValueExamples
 pub mod ValueLaws
