@@ -32,6 +32,9 @@ pub mod EventTokens
 pub mod RecordsUpwards
 pub mod Computing
 pub mod Examples
+pub mod ByteExamples
+pub mod KindExamples
+pub mod AnswerExamples
 pub mod FormExamples
 pub mod RecordExamples
 pub mod ValueExamples
