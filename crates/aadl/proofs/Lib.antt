@@ -33,6 +33,7 @@ pub mod RecordsUpwards
 pub mod Computing
 pub mod Examples
 pub mod ByteExamples
+pub mod SectionExamples
 pub mod KindExamples
 pub mod AnswerExamples
 pub mod FormExamples
