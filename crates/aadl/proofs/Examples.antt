@@ -39,8 +39,9 @@ pub record Starred : Type 0 where
   pub dots : tokens (bytes "1..2") ≡ token (# INTEGER-LIT) 1 ∷ token (# DOT-DOT) 2 ∷ token (# INTEGER-LIT) 1 ∷ []
   pub no-fraction : tokens (bytes "1.") ≡ token (# REAL-LIT) 2 ∷ []
   pub exponent : tokens (bytes "10eV") ≡ token (# REAL-LIT) 3 ∷ token (# IDENT) 1 ∷ []
-  -- said of the string reader: a text that holds such a string is refused (`refusals`)
+  -- said of the string reader, and of the one token that it gives: a text that holds such a string is refused (`refusals`)
   pub unclosed : string-of (bytes "\"\"\"") ≡ a-string 3 false
+  pub unclosed-token : tokens (bytes "\"\"\"") ≡ record { kind = # STRING-LIT; len = 3; closed = false } ∷ []
   pub bare : section-answer base (bytes "properties") 100 100 ≡ answered 1 1 3
   pub none : section-answer base (bytes "properties none;") 100 100 ≡ answered 4 3 5
   pub no-value : section-answer base (bytes "properties A => ;") 100 100 ≡ answered 7 4 11
@@ -60,6 +61,7 @@ starred =
       no-fraction = refl;
       exponent = refl;
       unclosed = refl;
+      unclosed-token = refl;
       bare = refl;
       none = refl;
       no-value = refl;

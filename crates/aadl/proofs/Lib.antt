@@ -40,6 +40,7 @@ pub mod FormExamples
 pub mod RecordExamples
 pub mod ValueExamples
 pub mod ValueLaws
+pub mod ValueTrees
 pub mod SameRuns
 pub mod SameNumbers
 pub mod SameMarks

@@ -49,6 +49,7 @@ pub record Exact : Type 0 where
   pub based : first-value "16#F_F# + 2 * 3" ≡ with-value (answered 16 9 25) (pos 261)
   pub leading-zeros : first-value "0016#_f#" ≡ with-value (answered 8 5 13) (pos 15)
   pub base-two : first-value "2#1_0#" ≡ with-value (answered 8 5 13) (pos 2)
+  pub highest-digit : first-value "11#A# + 10#9#" ≡ with-value (answered 12 7 19) (pos 19)
 
 pub exactly : Exact
 unfolding more-definitions
@@ -69,6 +70,7 @@ exactly =
       based = refl;
       leading-zeros = refl;
       base-two = refl;
+      highest-digit = refl;
     }
 
 -- Literals and partial results beyond the range: refused at the first of them.
@@ -112,6 +114,8 @@ pub record None : Type 0 where
   pub no-base-digit : first-value "16#G" ≡ no-constant
   pub no-digit : first-value "16#_#" ≡ no-constant
   pub digit-too-large : first-value "10#F#" ≡ no-constant
+  pub digit-two : first-value "2#2#" ≡ no-constant
+  pub digit-ten : first-value "10#A#" ≡ no-constant
   pub base-too-large : first-value "17#1#" ≡ no-constant
   pub base-too-small : first-value "1#0#" ≡ no-constant
   pub with-unit : first-value "1 ms" ≡ no-constant
@@ -119,6 +123,8 @@ pub record None : Type 0 where
   pub range : first-value "1 .. 2" ≡ no-constant
   pub in-parentheses : first-value "(1)" ≡ no-constant
   pub real : first-value "1.0" ≡ no-constant
+  pub real-exponent : first-value "1e3" ≡ no-constant
+  pub based-exponent : first-value "16#FF#e" ≡ no-constant
   pub name : first-value "a" ≡ no-constant
   -- 9 is decided for the whole value before 10 is looked at
   pub nine-before-ten : first-value "9223372036854775808 + 1 ms" ≡ no-constant
@@ -131,6 +137,8 @@ none =
       no-base-digit = refl;
       no-digit = refl;
       digit-too-large = refl;
+      digit-two = refl;
+      digit-ten = refl;
       base-too-large = refl;
       base-too-small = refl;
       with-unit = refl;
@@ -138,6 +146,8 @@ none =
       range = refl;
       in-parentheses = refl;
       real = refl;
+      real-exponent = refl;
+      based-exponent = refl;
       name = refl;
       nine-before-ten = refl;
     }

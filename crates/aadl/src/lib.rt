@@ -8,7 +8,8 @@ pub struct Token {
     pub closed: bool,
 }
 
-// A string at the front of some bytes: its length in bytes with both quotes, and whether it was closed.
+// What of some bytes belongs to a string that begins with them or has begun before them: how many bytes, up to the quote that closes it and with
+// that quote, or all of them where none closes it; and whether it was closed.
 pub struct Quoted {
     pub len: usize,
     pub closed: bool,

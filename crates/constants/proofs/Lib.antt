@@ -2,7 +2,6 @@ pub mod Parts
 pub mod Operands
 pub mod Sums
 pub mod FirstValues
-pub mod Trees
 pub mod Ahead
 pub mod Steps
 pub mod Outcomes

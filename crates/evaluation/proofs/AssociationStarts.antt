@@ -30,8 +30,8 @@ use Rattle.aadl.proofs.Literal.{read-is-literal}
 use Rattle.aadl.proofs.Demand3.{clean-exactly, spelled-derivation, derived-events, from-symbols}
 use Rattle.aadl.proofs.NeverClean.{no-stop}
 use Rattle.aadl.proofs.ValueCalls.{clean-by-test}
+use Rattle.aadl.proofs.ValueTrees.{found-tree}
 use Rattle.constants.proofs.Parts.{the-token}
-use Rattle.constants.proofs.Trees.{found-tree}
 use Rattle.constants.proofs.FirstValues.{Right, section-right}
 use Rattle.evaluation.specs.Starts.{starts-in}
 

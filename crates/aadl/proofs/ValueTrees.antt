@@ -1,5 +1,6 @@
--- A tree has the associations of its forest: neither messages nor when a node was begun matter. Forests side by side first, then down the
--- forest. Assumes nothing.
+-- A tree has the children and the associations of its forest: neither messages nor when a node was begun matter. So what `children` and
+-- `associations` say of forests that are no trees, which no derivation is and no events spell, follows from what they say of trees. Forests side
+-- by side first, then down the forest. Assumes nothing.
 use Prim.Native.Nat.{ℕ, suc, _+_}
 use native.Mathlib.Omega.{arith}
 use mathlib.Core.Path.{_≡_, refl, sym, ap, _∙_}
@@ -69,7 +70,7 @@ module _ (number-of-token : ℕ → Option ℕ) where
 
   -- THE TREE -----------------------------------------------------------------------------------------------------------
 
-  kids-tree : (i : ℕ) (f : Forest) → kids i (tree f) ≡ kids i f
+  pub kids-tree : (i : ℕ) (f : Forest) → children number-of-token i (tree f) ≡ children number-of-token i f
   unfolding children leaves tree
   kids-tree i nil = refl
   kids-tree i (leaf k f) = rw (kids-tree (suc i) f) refl
