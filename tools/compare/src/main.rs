@@ -9,7 +9,7 @@ mod source;
 
 use comparison::compare;
 use programs::{records_bytes, Pair, Program};
-use samples::{extended, numbers, sample, values};
+use samples::{extended, forms, numbers, sample, values};
 use source::Call;
 
 /// A user calls the scripts, which hand on what they are given.
@@ -51,6 +51,7 @@ fn main() {
             records.extend(extended(&oracle));
             records.extend(numbers(&oracle));
             records.extend(values(&oracle));
+            records.extend(forms());
             let input = records_bytes(&records);
             let output = oracle.output(&records);
             std::fs::write(stdin, &input).expect("write");

@@ -214,3 +214,27 @@ pub fn values(oracle: &Program) -> Vec<Record> {
     }
     records
 }
+
+/// 01's forms of Direction and Category: five, eleven, and fourteen that stand in a COMPONENT_CATEGORY.
+const FORMS: [&str; 30] = [
+    "in", "in out", "out", "provides", "requires", "data port", "event data", "event data port", "event port", "event", "data access", "bus access",
+    "feature", "feature group", "port", "access", "virtual bus", "virtual processor", "thread", "thread group", "subprogram", "subprogram group", "system",
+    "process", "processor", "bus", "memory", "device", "data", "abstract",
+];
+
+/// Literals with digits up to the base and equal to it, and reals, which are no constants.
+const DIGITS: [&str; 5] = ["2#2#", "10#A#", "11#A#", "1e3", "16#FF#e"];
+
+/// Records of the tree call, with each form behind a binding's `=>`, alone and before a classifier, and with all of them in one section; and of the value
+/// call, of each of those literals.
+pub fn forms() -> Vec<Record> {
+    let ask = |text: String, form| {
+        let text = text.into_bytes();
+        Record { family: 0, tokens: text.len() as u32, events: enough_events(&text), text, form }
+    };
+    let bound = |bindings: String| ask(format!("properties A => classifier (c ({bindings}));"), Form::Tree(800));
+    let each = FORMS.iter().map(|form| bound(format!("x => {form}, x => {form} T")));
+    let all = FORMS.map(|form| format!("x => {form} T")).join(",");
+    let values = DIGITS.iter().map(|value| ask(format!("properties A => {value};"), Form::Value(0)));
+    each.chain([bound(all)]).chain(values).collect()
+}
