@@ -1,10 +1,11 @@
--- Two small cases by computation, for readers of the definitions: the events of a left-leaning chain with the tree that they spell,
--- and the longest of some forms. Assumes nothing.
+-- Small cases by computation, for readers of the definitions: the events of a left-leaning chain with the tree that they spell, the longest of
+-- some forms, and the message of a missing token. Assumes nothing.
 use mathlib.Core.Path.{_≡_, refl}
 use mathlib.Core.List.{List, [], _∷_}
 use mathlib.Core.Option.{none, some}
 use Rattle.predictive.specs.Forest.{Forest, nil, leaf, err, node, wrap, message}
 use Rattle.predictive.specs.Grammar.{Form, row, best}
+use Rattle.predictive.specs.Reader.{expected}
 use Rattle.predictive.specs.Events.{start, token, finish, error, events, behind-start}
 use Rattle.predictive.specs.Tree.{spell}
 
@@ -33,3 +34,7 @@ forms = row (1 ∷ []) ∷ row (1 ∷ 2 ∷ 3 ∷ []) ∷ row (1 ∷ 2 ∷ []) �
 pub longest-that-stands : (best forms (1 ∷ 2 ∷ 4 ∷ []) ≡ some (row (1 ∷ 2 ∷ []))) × (best forms (2 ∷ []) ≡ none)
 unfolding best
 longest-that-stands = (refl, refl)
+
+-- 256 + kind
+pub missing-token : expected 5 ≡ 261
+missing-token = refl
