@@ -1,5 +1,5 @@
 -- What 01 and 02 give as numbers, written out: the limits, room for events, an answer's and a record's fields in their order, words and what is
--- in them, the parts of a number; and two listings, one with a message and one refused. Computed. Assumes nothing.
+-- in them, the parts of a number, what the tokens-only call counts; and two listings, one with a message and one refused. Computed. Assumes nothing.
 use Prim.Native.Nat.{ℕ}
 use mathlib.Core.Path.{_≡_, refl}
 use mathlib.Core.Bool.{Bool, true, false}
@@ -13,9 +13,9 @@ use Rattle.aadl.specs.Words.{bytes}
 use Rattle.aadl.specs.Tokens.{token, span, number, token-word, kind-in, length-in}
 use Rattle.aadl.specs.NumberParts.{part-numbers}
 use Rattle.aadl.specs.Encoding.{event-word, event-in, words-for, room, cut-to-word}
-use Rattle.aadl.specs.Answers.{answered, refused}
+use Rattle.aadl.specs.Answers.{answered, refused, tokens-answer}
 use Rattle.aadl.specs.Records.{Record, of-node, record-room, words-of-records, records-in}
-use Rattle.aadl.specs.Listing.{decimal, lent-tokens, lent-events, listing}
+use Rattle.aadl.specs.Listing.{decimal, row, lent-tokens, lent-events, listing}
 use Rattle.aadl.proofs.Computing.{definitions}
 
 abbrev four-events : List Event
@@ -27,6 +27,8 @@ pub record Written-out : Type 0 where
   pub rooms : map room (0 ∷ 1 ∷ 2 ∷ 3 ∷ 65535 ∷ 65536 ∷ 65538 ∷ []) ≡ 0 ∷ 0 ∷ 1 ∷ 1 ∷ 32767 ∷ 32768 ∷ 32768 ∷ []
   pub refusal : refused 3 11 ≡ record { number = 3; place = 11; tokens = 0; taken = 0; events = 0 }
   pub answer : answered 4 3 5 ≡ record { number = 0; place = 0; tokens = 4; taken = 3; events = 5 }
+  -- the tokens-only call counts tokens alone
+  pub tokens-only : tokens-answer base (bytes "properties none;") 4 ≡ answered 4 0 0
   pub node : of-node 1 2 3 4 ≡ record { kind = 1; parent = 2; first = 3; below = 4 }
   pub node-words : words-of-records (of-node 1 2 3 4 ∷ of-node 5 6 7 8 ∷ []) ≡ 1 ∷ 2 ∷ 3 ∷ 4 ∷ 5 ∷ 6 ∷ 7 ∷ 8 ∷ []
   pub node-rooms : map record-room (3 ∷ 4 ∷ 7 ∷ 8 ∷ []) ≡ 0 ∷ 1 ∷ 1 ∷ 2 ∷ []
@@ -41,6 +43,7 @@ pub record Written-out : Type 0 where
   pub letters :
       listing base (bytes "properties A =>\n")
       ≡ bytes "event,class,kind,last,line,column\n0,S,169,0,1,1\n1,T,60,1,1,1\n2,S,170,0,1,12\n3,S,171,0,1,12\n4,T,33,1,1,12\n5,F,0,0,1,14\n6,T,18,1,1,14\n7,E,0,5,2,1\n8,E,0,261,2,1\n9,F,0,0,2,1\n10,F,0,0,2,1\n"
+  pub no-fields : row [] ≡ bytes "\n"
   pub refused-line : listing base (bytes "properties \"") ≡ bytes "refused,8,11\n"
 
 pub written-out : Written-out
@@ -51,6 +54,7 @@ written-out =
       rooms = refl;
       refusal = refl;
       answer = refl;
+      tokens-only = refl;
       node = refl;
       node-words = refl;
       node-rooms = refl;
@@ -62,5 +66,6 @@ written-out =
       digits = refl;
       lent = (refl, refl, refl);
       letters = refl;
+      no-fields = refl;
       refused-line = refl;
     }
