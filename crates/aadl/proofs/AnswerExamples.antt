@@ -1,20 +1,18 @@
 -- What 01 and 02 give as numbers, written out: the limits, room for events, an answer's and a record's fields in their order, words and what is
 -- in them, the parts of a number, what the tokens-only call counts; and two listings, one with a message and one refused. Computed. Assumes nothing.
-use Prim.Native.Nat.{ℕ}
 use mathlib.Core.Path.{_≡_, refl}
-use mathlib.Core.Bool.{Bool, true, false}
+use mathlib.Core.Bool.{true, false}
 use mathlib.Core.List.{List, [], _∷_, map}
 use Rattle.predictive.specs.Forest.{message}
 use Rattle.predictive.specs.Events.{Event, start, finish, error}
 use Rattle.predictive.specs.Events as E
-use Rattle.aadl.specs.declared.Answer.{Answer}
 use Rattle.aadl.specs.Limits.{base}
 use Rattle.aadl.specs.Words.{bytes}
 use Rattle.aadl.specs.Tokens.{token, span, number, token-word, kind-in, length-in}
 use Rattle.aadl.specs.NumberParts.{part-numbers}
 use Rattle.aadl.specs.Encoding.{event-word, event-in, words-for, room, cut-to-word}
 use Rattle.aadl.specs.Answers.{answered, refused, tokens-answer}
-use Rattle.aadl.specs.Records.{Record, of-node, record-room, words-of-records, records-in}
+use Rattle.aadl.specs.Records.{of-node, record-room, words-of-records, records-in}
 use Rattle.aadl.specs.Listing.{decimal, row, lent-tokens, lent-events, listing}
 use Rattle.aadl.proofs.Computing.{definitions}
 
@@ -31,6 +29,7 @@ pub record Written-out : Type 0 where
   pub tokens-only : tokens-answer base (bytes "properties none;") 4 ≡ answered 4 0 0
   pub node : of-node 1 2 3 4 ≡ record { kind = 1; parent = 2; first = 3; below = 4 }
   pub node-words : words-of-records (of-node 1 2 3 4 ∷ of-node 5 6 7 8 ∷ []) ≡ 1 ∷ 2 ∷ 3 ∷ 4 ∷ 5 ∷ 6 ∷ 7 ∷ 8 ∷ []
+  pub nodes-back : records-in 2 (1 ∷ 2 ∷ 3 ∷ 4 ∷ []) ≡ of-node 1 2 3 4 ∷ of-node 0 0 0 0 ∷ []
   pub node-rooms : map record-room (3 ∷ 4 ∷ 7 ∷ 8 ∷ []) ≡ 0 ∷ 1 ∷ 1 ∷ 2 ∷ []
   pub parts : part-numbers (number 1 2 (span 3 4) (span 5 6) true false) ≡ 1 ∷ 2 ∷ 3 ∷ 4 ∷ 5 ∷ 6 ∷ 1 ∷ 0 ∷ []
   pub token-words : (token-word (token 60 10) ≡ 3932170) × (kind-in 3932170 ≡ 60) × (length-in 3932170 ≡ 10)
@@ -57,6 +56,7 @@ written-out =
       tokens-only = refl;
       node = refl;
       node-words = refl;
+      nodes-back = refl;
       node-rooms = refl;
       parts = refl;
       token-words = (refl, refl, refl);

@@ -6,7 +6,6 @@ use mathlib.Core.Path.{_≡_, refl}
 use mathlib.Core.List.{List, [], _∷_, _++_, map}
 use Rattle.predictive.specs.Forest.{message, refusal}
 use Rattle.predictive.specs.Events.{Event, start, token, finish, error}
-use Rattle.aadl.specs.declared.Answer.{Answer}
 use Rattle.aadl.specs.Limits.{base}
 use Rattle.aadl.specs.Words.{bytes}
 use Rattle.aadl.specs.Symbols.{symbols}
