@@ -63,6 +63,11 @@ fn numbers_and_strings(bytes: usize) -> String {
     filled(bytes, "properties\nA => (0", |n| format!(", {}", values[n % values.len()]), ");")
 }
 
+/// The last token is a string that takes nearly all bytes. An association's semicolon behind it is missing.
+fn string_at_the_end(bytes: usize) -> String {
+    filled(bytes, "properties\nNote => \"", |n| format!("line {} of what the next engineer reads; ", n % 100), "\"")
+}
+
 fn nested(bytes: usize) -> String {
     let depth = 40;
     // Each list is four events; with two spaces the longest text has fewer than may be.
@@ -143,6 +148,7 @@ pub fn all() -> Vec<Text> {
         ("identifiers", false, identifiers),
         ("comments", true, comments),
         ("numbers and strings", true, numbers_and_strings),
+        ("a string at the end", false, string_at_the_end),
         ("marks without spaces", true, marks),
         ("deep nesting", true, nested),
         ("errors everywhere", false, errors),
