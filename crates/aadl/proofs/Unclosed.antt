@@ -1,7 +1,7 @@
 -- 02's request Four: a string that is not closed. It takes all bytes up to the text's end, so only the last token can be one
 -- (`only-the-last`), and one look at that one is enough (`one-look`). Where check 8 refuses, its place is that string's opening quote
--- (`unclosed-there`); where it does not, every token is closed (`all-closed`). The last of a text's token words tells where to look
--- (`last-word`). By cases of the token, then by induction over the tokens. Assumes nothing.
+-- (`unclosed-there`); where it does not, every token is closed (`all-closed`). So a text's last token tells check 8 and its place
+-- (`last-tells`). By cases of the token, then by induction over the tokens. Assumes nothing.
 use Prim.Native.Nat.{ℕ, zero, suc, _+_, _-_, _≤_, _<_, zero-le, suc-le-suc}
 use Prim.Native.String.{String}
 use native.Mathlib.Nat.{add-zero}
@@ -9,7 +9,7 @@ use native.Mathlib.Omega.{arith}
 use mathlib.Core.Path.{_≡_, refl, sym, ap, subst, _∙_}
 use mathlib.Core.Bool.{Bool, true, false, _&&_, cond}
 use mathlib.Core.List.{List, [], _∷_}
-use lib.ListN.{length, getD, take, drop, length-drop, length-map, drop-of-length-le, List·getD-map}
+use lib.ListN.{length, getD, take, drop, length-drop, drop-of-length-le}
 use lib.Seq.{getD-drop}
 use lib.Dec.{eqb, ltb}
 use borrow.Author.Tests.{eqb-true}
@@ -18,14 +18,12 @@ use Rattle.predictive.proofs.Tests.{never}
 use Rattle.aadl.specs.declared.Token.{Token}
 use Rattle.aadl.specs.Kinds.{STRING-LIT, #_}
 use Rattle.aadl.specs.Words.{bytes}
-use Rattle.aadl.specs.Bytes.{peek, run, is-ident-continue}
-use Rattle.aadl.specs.Tokens.{token, string-of, string-lit, word-of, marks, longest-mark, mark-of, token-of, tokens, lengths, unclosed, token-word, length-in, kind-in}
-use Rattle.aadl.specs.Answers.{token-words}
+use Rattle.aadl.specs.Bytes.{peek}
+use Rattle.aadl.specs.Tokens.{token, string-of, string-lit, word-of, marks, longest-mark, mark-of, token-of, tokens, lengths, unclosed}
 use Rattle.aadl.proofs.Bools.{cond-has}
-use Rattle.aadl.proofs.Lists.{Each}
-use Rattle.aadl.proofs.TokenBounds.{inside, quoted-whole, token-cases, number-kind, word-kind, mark-kind, token-positive, token-kind-small}
+use Rattle.aadl.proofs.Lists.{Each, each-at}
+use Rattle.aadl.proofs.TokenBounds.{inside, quoted-whole, token-cases}
 use Rattle.aadl.proofs.TokensCover.{tokens-none, tokens-step, tokens-cover-text, tokens-positive, token-by-number, lengths-around}
-use Rattle.aadl.proofs.TokenText.{kind-back, length-back}
 
 -- ONE TOKEN ------------------------------------------------------------------------------------------------------------
 
@@ -53,15 +51,6 @@ never-closes bs =
     let n = inside (λ (b : ℕ). eqb b 34) refl bs 0 e in
     record { quote = eqb-true (peek bs 0) 34 e; string = refl; whole = omega (arith, n, quoted-whole false (drop 1 bs) c, length-drop 1 bs) })
     (λ e c. never (sym c)) (λ e c. never (sym c)) (λ c. never (sym c ∙ mark-closed bs))
-
--- a string begins with a quote
-pub string-begins : (bs : List ℕ) → token-of bs .kind ≡ # STRING-LIT → peek bs 0 ≡ 34
-unfolding word-of
-string-begins bs =
-    token-cases (λ (t : Token). t .kind ≡ # STRING-LIT → peek bs 0 ≡ 34) bs (λ e k. absurd (omega (arith, k))) (λ e k. absurd (omega (arith, k)))
-    (λ e k. eqb-true (peek bs 0) 34 e)
-    (λ e k. absurd (number-kind (λ (i : ℕ). i ≡ # STRING-LIT → ⊥) bs (λ z l. omega arith) (λ l. omega arith) (λ l. omega arith) k))
-    (λ e k. absurd (omega (arith, k, word-kind (take (run is-ident-continue bs) bs) .0))) (λ k. absurd (omega (arith, k, mark-kind bs)))
 
 pub closed-unless-string : (bs : List ℕ) → (token-of bs .kind ≡ # STRING-LIT → ⊥) → token-of bs .closed ≡ true
 closed-unless-string bs n = go (token-of bs .closed) refl
@@ -176,37 +165,48 @@ all-closed text e = go (tokens text) (tokens-positive text) (e ∙ sym (tokens-c
         cond-has (λ (k : ℕ). k ≡ t .len + lengths ts → (t .closed ≡ true) × Each (λ (u : Token). u .closed ≡ true) ts) (t .closed) _ _
         (λ c g. (c, go ts (p .1) (omega (arith, g)))) (λ c g. absurd (omega (arith, p .0, g))) f
 
--- THE LAST WORD --------------------------------------------------------------------------------------------------------
+-- THE LAST TOKEN -------------------------------------------------------------------------------------------------------
 
--- A word is that of the last token of a text, which starts at a place: its kind, its end, and that it tells check 8.
-pub record Last (text : List ℕ) (word place : ℕ) : Type 0 where
-  pub inside : place < length text
-  pub kind : kind-in word ≡ token-of (drop place text) .kind
-  pub ends : place + length-in word ≡ length text
-  pub look : unclosed (tokens text) ≡ cond (token-of (drop place text) .closed) (length text) place
+-- What the last token of a text tells of check 8: that it passes, or that it refuses, and where that token starts.
+pub record Last-tells (text : List ℕ) (t : Token) : Type 0 where
+  pub inside : t .len ≤ length text
+  pub passes : t .closed ≡ true → unclosed (tokens text) ≡ length text
+  pub refuses : t .closed ≡ false → unclosed (tokens text) ≡ length text → ⊥
+  pub start : t .closed ≡ false → length text - t .len ≡ unclosed (tokens text)
 
-pub last-word : (n : ℕ) (text : List ℕ) → length text < 65536 → length (token-words text) ≡ suc n →
-    Last text (getD (token-words text) n 0) (lengths (take n (tokens text)))
-last-word n text s e =
-    let d = token 0 0 in
-    let ts = tokens text in
-    let place = lengths (take n ts) in
-    let from = drop place text in
-    let some : length ts ≡ suc n = sym (length-map ts token-word) ∙ e in
-    let h : n < length ts = omega (arith, some) in
-    let same = token-by-number n text d h in
-    let over : length ts ≤ suc n = omega (arith, some) in
-    let none : lengths (drop (suc n) ts) ≡ 0 = ap lengths (drop-of-length-le ts over) in
-    let cover : place + getD ts n d .len ≡ length text = omega (arith, lengths-around n ts d h, none, tokens-cover-text text) in
-    let t = token-of from in
-    let len : getD ts n d .len ≡ t .len = ap (λ (x : Token). x .len) same in
-    let positive = token-positive from in
-    let word : getD (token-words text) n 0 ≡ token-word t = List·getD-map token-word ts n d ∙ ap token-word same in
-    let k = token-kind-small from in
-    let l : t .len < 65536 = omega (arith, s, cover, len) in
-    record {
-      inside = omega (arith, cover, len, positive);
-      kind = ap kind-in word ∙ kind-back t k l;
-      ends = ap (λ (m : ℕ). place + m) (ap length-in word ∙ length-back t k l ∙ sym len) ∙ cover;
-      look = one-look n text d some ∙ ap (λ (x : Token). cond (x .closed) (length text) place) same;
-    }
+pub last-tells : (text : List ℕ) → Last-tells text (getD (tokens text) (length (tokens text) - 1) (token 0 0))
+last-tells text = go (tokens text) refl
+  where
+    n : ℕ
+    n = length (tokens text) - 1
+
+    last : Token
+    last = getD (tokens text) n (token 0 0)
+
+    of-some : length (tokens text) ≡ suc n → Last-tells text last
+    of-some e =
+        let ts = tokens text in
+        let h : n < length ts = omega (arith, e) in
+        let over : length ts ≤ suc n = omega (arith, e) in
+        let none : lengths (drop (suc n) ts) ≡ 0 = ap lengths (drop-of-length-le ts over) in
+        let around = lengths-around n ts (token 0 0) h in
+        let some = each-at (λ (t : Token). 1 ≤ t .len) ts n (token 0 0) h (tokens-positive text) in
+        let cover = tokens-cover-text text in
+        let look = one-look n text (token 0 0) e in
+        record {
+          inside = omega (arith, around, cover);
+          passes = λ c. rw c at look;
+          refuses = λ c u. omega (arith, rw c at look, u, around, some, cover);
+          start = λ c. omega (arith, rw c at look, around, none, cover);
+        }
+
+    go : (ts : List Token) → tokens text ≡ ts → Last-tells text last
+    go [] e =
+        subst (λ (ts : List Token). Last-tells text (getD ts (length ts - 1) (token 0 0))) (sym e)
+        record {
+          inside = zero-le;
+          passes = λ c. ap unclosed e ∙ sym (ap lengths e) ∙ tokens-cover-text text;
+          refuses = λ c. absurd (never (sym c));
+          start = λ c. absurd (never (sym c));
+        }
+    go (t ∷ ts) e = of-some (omega (arith, ap length e))

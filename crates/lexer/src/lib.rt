@@ -4,6 +4,7 @@ use aadl::Answer;
 use aadl::Limits;
 use aadl::Number;
 use aadl::Span;
+use aadl::Token;
 use classes::DIGITS;
 use classes::class_table;
 use classes::is_ascii;
@@ -17,26 +18,26 @@ use codec::length_in;
 use codec::token_word;
 use keywords::word_tables;
 use scan::number_from;
-use scan::scan_string;
 use scan::scan_token;
 use scan::word_bound;
-use syntax_kind::STRING_LIT;
 ghost use mathlib.Core.Path.{_≡_};
 ghost use Prim.Native.Nat.{_+_, _≤_, min};
 ghost use lib.ListN.{length, take, replicate};
 ghost use Rattle.aadl.specs.Limits.{base, Allowed};
 ghost use Rattle.aadl.specs.Utf8.{ill-formed};
-ghost use Rattle.aadl.specs.Tokens.{tokens, unclosed, total, from-token, token-text};
+ghost use Rattle.aadl.specs.Tokens.{total, from-token, token-text};
 ghost use Rattle.aadl.specs.NumberParts.{number-parts, bit, part-numbers, Parts-hold};
 ghost use Rattle.aadl.specs.Answers.{refused, token-words};
 ghost use Rattle.aadl.specs.Contracts.{Tokens-called};
 ghost use Rattle.lexer.specs.Filling.{write, filled-of};
 
-// How far tokens went into words: whether one is left without a word, where it starts or the text ends, how many words are written.
+// How far tokens went into words: whether one is left without a word, where it starts or the text ends, how many words are
+// written, and the last token that has one. Only the last token of a text can be a string that is not closed.
 pub struct Filled {
     pub full: bool,
     pub at: usize,
     pub count: usize,
+    pub last: Token,
 }
 
 // Where the first ill-formed sequence starts, or the length.
@@ -57,6 +58,25 @@ fn valid_up_to(s: &[u8]) -> usize
     at
 }
 
+// Stands for the last token where there is none.
+const NO_TOKEN: Token = Token {
+    kind: 0,
+    len: 0,
+    closed: true,
+};
+
+// The answer of `fill`.
+fn how_far(full: bool, at: usize, count: usize, last: Token) -> Filled
+    ensures { λ r. ⌜ r ≡ record { full = full; at = at; count = count; last = last } ⌝ }
+{
+    Filled {
+        full,
+        at,
+        count,
+        last,
+    }
+}
+
 // Fills the words with the tokens of a text, as far as they go.
 fn fill(s: &[u8], tokens: &mut [u32]) -> Filled
     requires { ⌜ length (now s) ≤ base .bytes ⌝ }
@@ -73,15 +93,12 @@ fn fill(s: &[u8], tokens: &mut [u32]) -> Filled
     let bound = word_bound(s, &classes);
     let mut at = 0;
     let mut n = 0;
+    let mut last = NO_TOKEN;
     while at < s.len() {
         if n == tokens.len() {
-            return Filled {
-                full: true,
-                at,
-                count: n,
-            };
+            return how_far(true, at, n, last);
         }
-        let t = scan_token(
+        last = scan_token(
             s,
             at,
             bound,
@@ -93,37 +110,11 @@ fn fill(s: &[u8], tokens: &mut [u32]) -> Filled
             &kinds,
             &slots,
         );
-        let k = t.kind;
-        let l = t.len;
-        tokens[n] = token_word(k, l);
+        tokens[n] = token_word(last.kind, last.len);
         n += 1;
-        at += l;
+        at += last.len;
     }
-    Filled {
-        full: false,
-        at,
-        count: n,
-    }
-}
-
-// Where the last token starts if it is a string that is not closed, else the text's length: no other token can be one, so that one look is
-// enough. The words are those of the text's tokens.
-fn unclosed_at(s: &[u8], words: &[u32]) -> usize
-    requires { ⌜ (length (now s) ≤ base .bytes) × (now words ≡ token-words (now s)) ⌝ }
-    ensures { λ r. ⌜ r ≡ unclosed (tokens (now (s .entry))) ⌝ }
-{
-    if words.len() == 0 {
-        return s.len();
-    }
-    let last = words[words.len() - 1];
-    if kind_in(last) != STRING_LIT {
-        return s.len();
-    }
-    let at = s.len() - length_in(last);
-    if scan_string(s, at).closed {
-        return s.len();
-    }
-    at
+    how_far(false, at, n, last)
 }
 
 // Zeroes every word.
@@ -273,19 +264,17 @@ pub fn tokenize_within(src: &[u8], tokens: &mut [u32], limits: Limits) -> Answer
         return refuse(tokens, 2, v);
     }
     let f = fill(src, tokens);
-    let at = f.at;
     if f.full {
-        return refuse(tokens, 3, at);
+        return refuse(tokens, 3, f.at);
     }
-    let n = f.count;
-    let p = unclosed_at(src, &tokens[..n]);
-    if p != src.len() {
-        return refuse(tokens, 8, p);
+    let last = f.last;
+    if !last.closed {
+        return refuse(tokens, 8, src.len() - last.len);
     }
     Answer {
         number: 0,
         place: 0,
-        tokens: n,
+        tokens: f.count,
         taken: 0,
         events: 0,
     }

@@ -107,7 +107,7 @@ fn quoted(s: &[u8], from: usize) -> Quoted
     }
 }
 
-pub fn scan_string(s: &[u8], at: usize) -> Token
+fn scan_string(s: &[u8], at: usize) -> Token
     requires { ⌜ Begins (now s) at (# STRING-LIT) ⌝ }
     ensures { λ r. ⌜ r ≡ token-of (drop at (now (s .entry))) ⌝ }
 {

@@ -1,6 +1,6 @@
 -- Filling words, one token at a turn (FillLaws). Assumes nothing.
 use Prim.Native.Nat.{_-_}
-use mathlib.Core.Path.{sym, subst}
+use mathlib.Core.Path.{sym, subst, _∙_}
 use native.Mathlib.Omega.{arith}
 use lib.ListN.{length}
 use Rattle.scan.specs.Places.{Bounds}
@@ -11,13 +11,15 @@ use Rattle.lexer.proofs.fill.Statement.{statement}
 use Rattle.lexer.proofs.fill.Tie as tie
 
 abbrev Inv-loop : tie.InvT-loop
-Inv-loop s tokens₀ leads classes letters starts lengths kinds slots bound at₀ n₀ tokens at n = Filling s tokens₀ tokens at n
+Inv-loop s tokens₀ leads classes letters starts lengths kinds slots bound at₀ n₀ last₀ tokens at n last = Filling s tokens₀ tokens at n last
 
 abbrev μ-loop : tie.MeasureT-loop
-μ-loop s tokens₀ leads classes letters starts lengths kinds slots bound at₀ n₀ tokens at n = length s - at
+μ-loop s tokens₀ leads classes letters starts lengths kinds slots bound at₀ n₀ last₀ tokens at n last = length s - at
 
 returns : tie.Need-returns Inv-loop μ-loop
-returns c = filling-full (c .before .before .loop .inv) (search needs) (c .if1 .taken)
+returns c =
+    let f = filling-full (c .before .before .before .loop .inv) (search needs) (c .before .if1 .taken) in
+    (c .how-far .ensures ∙ f .0, f .1)
 
 scan-token-requires : tie.Need-scan-token-requires Inv-loop μ-loop
 scan-token-requires c κs =
@@ -36,19 +38,22 @@ fits q = token-fits (q .before .before .before .before .before .before .before .
 
 loop-again : tie.Need-loop-again Inv-loop μ-loop
 loop-again c =
-    let q = c .before in
-    rw (c .token-word .ensures) (filling-more (q .before .before .before .before .before .before .before .before .before .before .loop .inv) (q .scan-token .result) (search needs)
-    (omega (arith, q .before .before .before .before .before .before .before .before .before .before .loop .inv .room, q .before .before .before .before .before .before .before .before .before .before .loop .inv .same, q .before .before .before .before .before .before .before .before .if1 .left)) (q .scan-token .ensures))
+    let q = c .before .before in
+    let l = q .before .before .before .before .before .before .before .before .before .before .loop in
+    rw (c .before .token-word .ensures) (filling-more (l .inv) (q .scan-token .result) (search needs)
+    (omega (arith, l .inv .room, l .inv .same, q .before .before .before .before .before .before .before .before .if1 .left)) (q .scan-token .ensures))
 
 returns-2 : tie.Need-returns-2 Inv-loop μ-loop
-returns-2 c = filling-ends (c .before .loop .inv) (search needs)
+returns-2 c =
+    let f = filling-ends (c .before .before .loop .inv) (search needs) in
+    (c .how-far2 .ensures ∙ f .0, f .1)
 
 pub fill-spec : {M : Type 1} → statement M
 fill-spec =
     tie.close
     (tie.spec Inv-loop μ-loop (λ c κs. tt) (λ c κs. tt) (λ c κs. tt) (λ c κs. c .before .before .before .before .before .before .before .class-table .ensures) (λ c. filling-starts _ _)
-    (λ c. c .before .before .loop .inv .same) returns scan-token-requires (λ c κs. let t = fits c in (omega arith, omega arith))
+    (λ c κs. tt) (λ c. c .before .before .before .loop .inv .same) returns scan-token-requires (λ c κs. let t = fits c in (omega arith, omega arith))
     (λ c. record { fits = omega (arith, c .before .before .before .before .before .before .before .before .before .before .before .loop .inv .room, c .before .before .before .before .before .before .before .before .before .before .before .before .before .before .before .before .before .before .before .before .before .before .before .before .good .1 .0) })
     (λ c. search needs)
     (λ c. record { fits = omega (arith, c .before .before .before .before .before .before .before .before .before .before .before .loop .inv .room, c .before .before .before .before .before .before .before .before .before .before .before .before .before .before .before .before .before .before .before .before .before .before .before .before .good .1 .0) })
-    (λ c. let t = fits (c .before) in omega arith) (λ c. let t = fits (c .before) in omega arith) loop-again (λ c. c .before .loop .inv .same) returns-2)
+    (λ c. let t = fits (c .before .before) in omega arith) (λ c. let t = fits (c .before .before) in omega arith) loop-again (λ c κs. tt) (λ c. c .before .before .loop .inv .same) returns-2)

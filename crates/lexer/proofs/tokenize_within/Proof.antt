@@ -1,12 +1,11 @@
 -- The answer is that of the first check whose case holds (aadl's AnswerLaws); a refusal clears the words, and else they are filled. That
 -- each token which is a word has that word's kind follows from both (aadl's `tokens-promised`). Assumes nothing.
-use Prim.Native.Nat.{ℕ, suc, _≤_}
+use Prim.Native.Nat.{ℕ, suc, _-_, _≤_}
 use native.Mathlib.Omega.{arith}
 use mathlib.Core.Path.{_≡_, sym, ap, _∙_}
 use mathlib.Core.Bool.{false}
 use mathlib.Core.List.{List, [], _∷_}
-use lib.ListN.{length, take, replicate}
-use lib.Seq.{length-take-le}
+use lib.ListN.{length, replicate}
 use Rattle.aadl.specs.declared.Answer.{Answer}
 use Rattle.aadl.specs.declared.Limits.{Limits}
 use Rattle.aadl.specs.Limits.{Allowed}
@@ -16,8 +15,10 @@ use Rattle.aadl.specs.Calls.{tokens-call}
 use Rattle.aadl.specs.Contracts.{Tokens-called}
 use Rattle.aadl.proofs.AnswerLaws.{too-long, not-utf8, no-word-left, not-closed, text-passes, tokens-answer-is, left-by-refusal, left-answered}
 use Rattle.aadl.proofs.CallsRead.{tokens-promised}
-use Rattle.lexer.proofs.FillLaws.{filled-over, filled-all, filled-place, filled-count, all-written, first-written}
+use Rattle.aadl.proofs.Unclosed.{Last-tells}
+use Rattle.lexer.proofs.FillLaws.{filled-over, filled-all, filled-place, filled-count, filled-last, all-written}
 use borrow.Author.Needs.{needs}
+use borrow.Author.Tests.{not-true, not-false}
 use Rattle.lexer.proofs.tokenize_within.Statement.{statement}
 use Rattle.lexer.proofs.tokenize_within.Tie as tie
 
@@ -71,7 +72,7 @@ returns-3 c =
     called limits xs old _ _ (start .pre) (w .ensures .0 ∙ ap (refused 3) (filled-place xs (length old) f q) ∙ sym (tokens-answer-is limits xs (length old) ∙ a))
     (w .ensures .1 ∙ ap (λ (k : ℕ). replicate k 0) ((c .before .before .before .before .before .before .before .fill) .kept .1 .0) ∙ zeros (w .result) 2 (f .at) (token-words xs) old (w .ensures .0))
 
--- where every token has a word: how many there are, and the words
+-- where every token has a word: how many there are, and what the last one tells
 module _ (q : tie.After-fill) (e : q .fill .result .full ≡ false) where
   abbrev text : List ℕ
   text = q .before .before .before .before .before .before .before .before .args .src .now
@@ -85,33 +86,27 @@ module _ (q : tie.After-fill) (e : q .fill .result .full ≡ false) where
   count : q .fill .result .count ≡ length (tokens text)
   count = filled-count text (length lent-words) (q .fill .result) (q .fill .ensures .0) e
 
-count-fits : tie.Need-slice-reshare-prefix-unclosed-at
-count-fits c =
-    let q = c .before .before .before in
-    omega (arith, count q (c .if3 .left), all q (c .if3 .left), q .fill .kept .1 .0)
+  tells : Last-tells text (q .fill .result .last)
+  tells = filled-last text (length lent-words) (q .fill .result) (q .fill .ensures .0) e
 
-unclosed-at-requires : tie.Need-unclosed-at-requires
-unclosed-at-requires c κs =
-    let q = c .before .before .before .before in
-    let start = q .before .before .before .before .before .before .before .before in (
-      omega (arith, start .pre, q .before .before .before .before .if1 .left),
-      ap (take (q .fill .result .count)) (q .fill .ensures .1) ∙ first-written (text q (c .before .if3 .left)) (start .args .tokens .now) (q .fill .result .count) (all q (c .before .if3 .left)) (count q (c .before .if3 .left)),
-    )
+string-fits : tie.Need-sub-refuse
+string-fits c = tells (c .before .before .before .before .before .before .before .before) (c .before .before .before .before .before .if3 .left) .inside
 
 returns-4 : tie.Need-returns-4
 returns-4 c =
-    let q = c .before .before .before .before .before .before .before .before .before .before in
-    let some = c .before .before .before .before .before .before .before .if3 .left in
+    let q = c .before .before .before .before .before .before .before .before .before .before .before in
+    let some = c .before .before .before .before .before .before .before .before .if3 .left in
+    let unclosed = not-true (q .fill .result .last .closed) (c .before .before .before .before .before .if4 .taken) in
     let start = q .before .before .before .before .before .before .before .before in
     let xs = start .args .src .now in
     let old = start .args .tokens .now in
     let limits = start .args .limits in
     let utf8 = sym (q .before .before .before .valid-up-to .ensures) ∙ q .before .before .if2 .left in
-    let u = c .before .before .before .before .before .unclosed-at in
-    let a = not-closed limits xs (length old) [] (all-tokens xs) (q .before .before .before .before .if1 .left) utf8 (all q some) (λ z. c .before .before .before .before .if4 .taken (u .ensures ∙ z)) in
+    let u = tells q some .start unclosed in
+    let a = not-closed limits xs (length old) [] (all-tokens xs) (q .before .before .before .before .if1 .left) utf8 (all q some) (tells q some .refuses unclosed) in
     let w = c .before .before .refuse4 in
-    called limits xs old _ _ (start .pre) (w .ensures .0 ∙ ap (refused 8) (u .ensures) ∙ sym (tokens-answer-is limits xs (length old) ∙ a))
-    (w .ensures .1 ∙ ap (λ (k : ℕ). replicate k 0) (q .fill .kept .1 .0) ∙ zeros (w .result) 7 (u .result) (token-words xs) old (w .ensures .0))
+    called limits xs old _ _ (start .pre) (w .ensures .0 ∙ ap (refused 8) u ∙ sym (tokens-answer-is limits xs (length old) ∙ a))
+    (w .ensures .1 ∙ ap (λ (k : ℕ). replicate k 0) (q .fill .kept .1 .0) ∙ zeros (w .result) 7 (length xs - q .fill .result .last .len) (token-words xs) old (w .ensures .0))
 
 returns-5 : tie.Need-returns-5
 returns-5 c =
@@ -122,7 +117,7 @@ returns-5 c =
     let old = start .args .tokens .now in
     let limits = start .args .limits in
     let utf8 = sym (q .before .before .before .valid-up-to .ensures) ∙ q .before .before .if2 .left in
-    let a = text-passes limits xs (length old) [] (all-tokens xs) (q .before .before .before .before .if1 .left) utf8 (all q some) (sym (c .before .unclosed-at .ensures) ∙ c .if4 .left) in
+    let a = text-passes limits xs (length old) [] (all-tokens xs) (q .before .before .before .before .if1 .left) utf8 (all q some) (tells q some .passes (not-false (q .fill .result .last .closed) (c .if4 .left))) in
     called limits xs old _ _ (start .pre) (ap (λ (n : ℕ). answered n 0 0) (count q some) ∙ sym (tokens-answer-is limits xs (length old) ∙ a))
     (q .fill .ensures .1 ∙ all-written xs old (all q some) ∙ sym (left-answered (q .fill .result .count) 0 0 (token-words xs) old))
 
@@ -130,4 +125,4 @@ pub tokenize-within-spec : {M : Type 1} → statement M
 tokenize-within-spec =
     tie.close
     (tie.spec (λ c κs. search needs) (λ c. search needs) returns (λ c κs. search needs) (λ c κs. search needs) (λ c. search needs) returns-2 (λ c κs. search needs) (λ c κs. search needs)
-    (λ c. search needs) returns-3 count-fits (λ c. sym (length-take-le _ _ (count-fits (c .before)))) unclosed-at-requires (λ c κs. search needs) (λ c. search needs) returns-4 (λ c. search needs) returns-5)
+    (λ c. search needs) returns-3 string-fits (λ c κs. search needs) (λ c. search needs) returns-4 (λ c. search needs) returns-5)
