@@ -8,6 +8,7 @@ use Rattle.predictive.specs.Forest.{Forest}
 use Rattle.aadl.specs.declared.Answer.{Answer}
 use Rattle.aadl.specs.declared.TreeAnswer.{TreeAnswer}
 use Rattle.aadl.specs.declared.ValueAnswer.{ValueAnswer}
+use Rattle.aadl.specs.Slices.{Slice, before, after}
 use Rattle.aadl.specs.Limits.{Limits}
 use Rattle.aadl.specs.Tokens.{Strings-closed}
 use Rattle.aadl.specs.WordKinds.{Words-told}
@@ -40,7 +41,26 @@ pub record Value-called (limits : Limits) (text tokens events : List ℕ) (numbe
   -- where the section call refuses nothing, every derivation of the text decides: no such association, no constant, beyond the range, or the value
   pub decided : (t : Forest) → Derivation (kinds text) t → let first = answer-of (section-call limits text tokens events) in first .number ≡ 0 → a ≡ valued-by text t number first
 
--- What follows where nothing is refused, of the section call and of every call that goes on from it: it is read as derived, its words, strings
+-- CONTRACTS ------------------------------------------------------------------------------------------------------------
+
+-- The same of the slices that are lent to a function: what its contract says.
+module _ (limits : Limits) (text tokens : Slice) where
+  abbrev pub Makes-tokens-call : Answer → Type 0
+  Makes-tokens-call a = Tokens-called limits (before text) (before tokens) a (after tokens)
+
+  abbrev pub Makes-section-call : (events : Slice) → Answer → Type 0
+  Makes-section-call events a = Section-called limits (before text) (before tokens) (before events) a (after tokens) (after events)
+
+  abbrev pub Makes-tree-call : (events records : Slice) → TreeAnswer → Type 0
+  Makes-tree-call events records a =
+      Tree-called limits (before text) (before tokens) (before events) (before records) a (after tokens) (after events) (after records)
+
+  abbrev pub Makes-value-call : (events : Slice) → (number : ℕ) → ValueAnswer → Type 0
+  Makes-value-call events n a = Value-called limits (before text) (before tokens) (before events) n a (after tokens) (after events)
+
+-- WHAT FOLLOWS ---------------------------------------------------------------------------------------------------------
+
+-- Where nothing is refused, of the section call and of every call that goes on from it: it is read as derived, its words, strings
 -- and numbers are told, and each event knows its token.
 pub record Read-whole (text : List ℕ) (a : Answer) (tokens-left events-left : List ℕ) : Type 0 where
   pub derived : Read-as-derived text a events-left

@@ -6,6 +6,7 @@ use mathlib.Core.List.{List, [], _∷_, _++_}
 use lib.ListN.{length, take, drop}
 use Rattle.aadl.specs.declared.Answer.{Answer}
 use Rattle.aadl.specs.declared.TreeAnswer.{TreeAnswer}
+use Rattle.aadl.specs.Slices.{Slice, before, after}
 use Rattle.aadl.specs.Tokens.{total, token-text}
 use Rattle.aadl.specs.Encoding.{first-words}
 use Rattle.aadl.specs.Answers.{answered}
@@ -23,10 +24,10 @@ six-in-a-row a = numbers (a .answer) ++ (a .records ∷ [])
 
 -- An exported call: the library's call gave an answer that keeps its promise, and the answer's numbers are written over the first of the lent ones, as
 -- many as are lent; the others are as they were.
-pub record Exported {A : Type 0} (numbers : A → List ℕ) (Promise : A → Type 0) (old new : List ℕ) : Type 0 where
+pub record Exported {A : Type 0} (numbers : A → List ℕ) (Promise : A → Type 0) (lent : Slice) : Type 0 where
   pub answer : A
   pub promise : Promise answer
-  pub told : new ≡ write (numbers answer) old
+  pub told : after lent ≡ write (numbers answer) (before lent)
 
 -- Whether words that an answer of the section call counts are clean, where it refuses nothing and so many tokens are taken.
 abbrev pub clean-words : (taken : ℕ) → (tokens events : List ℕ) → Bool
@@ -43,6 +44,10 @@ part-told text words i old = write (text-start text words i ∷ length (token-te
 -- The part of a text that has a start and a length.
 abbrev pub part-of : (text : List ℕ) → (start len : ℕ) → List ℕ
 part-of text start len = take len (drop start text)
+
+-- The part of the text that these two numbers tell is the token's text.
+abbrev pub Is-the-part : (text words : List ℕ) → (number : ℕ) → Type 0
+Is-the-part text words i = part-of text (text-start text words i) (length (token-text text words i)) ≡ token-text text words i
 
 -- Eight lent numbers at exit, likewise: the parts of the number that a token is.
 unfoldable pub parts-told : (text words : List ℕ) → (number : ℕ) → (old : List ℕ) → List ℕ

@@ -5,13 +5,13 @@ use aadl::Answer;
 use codec::events_told;
 ghost use mathlib.Core.Path.{_≡_};
 ghost use mathlib.Core.Bool.{cond};
-ghost use lib.ListN.{length, set};
+ghost use lib.ListN.{set};
 ghost use Rattle.aadl.specs.Limits.{base};
-ghost use Rattle.aadl.specs.Tokens.{from-token, token-text};
+ghost use Rattle.aadl.specs.Tokens.{from-token};
 ghost use Rattle.aadl.specs.NumberParts.{number-parts, Parts-hold};
-ghost use Rattle.aadl.specs.Contracts.{Tokens-called, Section-called, Tree-called, Value-called};
+ghost use Rattle.aadl.specs.Contracts.{Makes-tokens-call, Makes-section-call, Makes-tree-call, Makes-value-call};
 ghost use Rattle.lexer.specs.Filling.{write};
-ghost use Rattle.capi.specs.Numbers.{numbers, six-in-a-row, Exported, clean-words, text-start, part-told, part-of, parts-told};
+ghost use Rattle.capi.specs.Numbers.{numbers, six-in-a-row, Exported, clean-words, part-told, Is-the-part, parts-told};
 
 // Sets a number if it is lent.
 fn put(lent: &mut [usize], at: usize, n: usize)
@@ -49,7 +49,7 @@ pub extern "C" fn gigboda_property_section(
     events: &mut [u32],
     answer: &mut [usize],
 )
-    ensures { λ r. ⌜ Exported numbers (λ a. Section-called base (now (src .entry)) (now (tokens .entry)) (now (events .entry)) a (now (tokens .exit)) (now (events .exit))) (now (answer .entry)) (now (answer .exit)) ⌝ }
+    ensures { λ r. ⌜ Exported numbers (Makes-section-call base src tokens events) answer ⌝ }
 {
     let a = section::property_section(src, tokens, events);
     tell_answer(answer, a);
@@ -64,7 +64,7 @@ pub extern "C" fn gigboda_property_tree(
     records: &mut [u32],
     answer: &mut [usize],
 )
-    ensures { λ r. ⌜ Exported six-in-a-row (λ a. Tree-called base (now (src .entry)) (now (tokens .entry)) (now (events .entry)) (now (records .entry)) a (now (tokens .exit)) (now (events .exit)) (now (records .exit))) (now (answer .entry)) (now (answer .exit)) ⌝ }
+    ensures { λ r. ⌜ Exported six-in-a-row (Makes-tree-call base src tokens events records) answer ⌝ }
 {
     let a = tree::property_tree(src, tokens, events, records);
     let five = a.answer;
@@ -88,7 +88,7 @@ pub extern "C" fn gigboda_association_value(
     number: usize,
     answer: &mut [usize],
 ) -> i64
-    ensures { λ r. ⌜ Exported (λ a. numbers (a .answer)) (λ a. (r ≡ a .value) × Value-called base (now (src .entry)) (now (tokens .entry)) (now (events .entry)) number a (now (tokens .exit)) (now (events .exit))) (now (answer .entry)) (now (answer .exit)) ⌝ }
+    ensures { λ r. ⌜ Exported (λ a. numbers (a .answer)) (λ a. (r ≡ a .value) × Makes-value-call base src tokens events number a) answer ⌝ }
 {
     let a = evaluation::association_value(src, tokens, events, number);
     let value = a.value;
@@ -99,7 +99,7 @@ pub extern "C" fn gigboda_association_value(
 // The tokens-only call: tokens into lent words, the answer's numbers into lent numbers.
 #[no_mangle]
 pub extern "C" fn gigboda_tokenize(src: &[u8], tokens: &mut [u32], answer: &mut [usize])
-    ensures { λ r. ⌜ Exported numbers (λ a. Tokens-called base (now (src .entry)) (now (tokens .entry)) a (now (tokens .exit))) (now (answer .entry)) (now (answer .exit)) ⌝ }
+    ensures { λ r. ⌜ Exported numbers (Makes-tokens-call base src tokens) answer ⌝ }
 {
     let a = lexer::tokenize(src, tokens);
     tell_answer(answer, a);
@@ -128,7 +128,7 @@ pub extern "C" fn gigboda_clean(taken: usize, tokens: &[u32], events: &[u32]) ->
 #[no_mangle]
 pub extern "C" fn gigboda_token_text(src: &[u8], words: &[u32], number: usize, part: &mut [usize])
     ensures part_numbers { λ r. ⌜ now (part .exit) ≡ part-told (now (src .entry)) (now (words .entry)) number (now (part .entry)) ⌝ }
-    ensures part_text { λ r. ⌜ part-of (now (src .entry)) (text-start (now (src .entry)) (now (words .entry)) number) (length (token-text (now (src .entry)) (now (words .entry)) number)) ≡ token-text (now (src .entry)) (now (words .entry)) number ⌝ }
+    ensures part_text { λ r. ⌜ Is-the-part (now (src .entry)) (now (words .entry)) number ⌝ }
 {
     let text = lexer::token_text(src, words, number);
     let len = text.len();

@@ -32,13 +32,12 @@ use syntax_kind::is_keyword;
 use syntax_kind::wide32;
 ghost use mathlib.Core.Path.{_≡_};
 ghost use mathlib.Core.List.{[], _∷_};
-ghost use Prim.Native.Nat.{ℕ};
 ghost use Rattle.predictive.specs.Grammar.{tok};
 ghost use Rattle.predictive.specs.Reader.{ones};
 ghost use Rattle.aadl.specs.Kinds as K;
 ghost use Rattle.aadl.specs.Section as G;
 ghost use Rattle.parser.specs.Input.{input};
-ghost use Rattle.parser.specs.Reads.{Read, stands};
+ghost use Rattle.parser.specs.Reads.{stands, Reads-part};
 
 // NAMES
 
@@ -58,7 +57,7 @@ pub fn name_or_error(
     p: Parser,
     message: u8,
 ) -> Parser
-    ensures { λ r. ⌜ ((d : ℕ) → Read (input (now (text .entry)) (now (toks .entry))) d (tok message G.names) p (now (events .entry)) r (now (events .exit))) ⌝ }
+    ensures { λ r. ⌜ Reads-part text toks events (tok message G.names) p r ⌝ }
 {
     if at_ident_or_kw(text, toks, p) {
         return bump_any(text, toks, events, p);
@@ -70,7 +69,7 @@ pub fn name_or_error(
 
 // `in`, `in out`, `out`, `provides` or `requires`, if one stands.
 pub fn direction(text: &[u8], toks: &[u32], events: &mut [u32], p: Parser) -> Parser
-    ensures { λ r. ⌜ ((d : ℕ) → Read (input (now (text .entry)) (now (toks .entry))) d G.direction p (now (events .entry)) r (now (events .exit))) ⌝ }
+    ensures { λ r. ⌜ Reads-part text toks events G.direction p r ⌝ }
 {
     let kind = current(text, toks, p);
     if kind == IN_KW {
@@ -93,7 +92,7 @@ pub fn direction(text: &[u8], toks: &[u32], events: &mut [u32], p: Parser) -> Pa
 
 // What follows `virtual`.
 fn virtual_kind(text: &[u8], toks: &[u32], events: &mut [u32], p: Parser) -> Parser
-    ensures { λ r. ⌜ ((d : ℕ) → Read (input (now (text .entry)) (now (toks .entry))) d (tok 8 (G.numbers (K.BUS-KW ∷ K.PROCESSOR-KW ∷ []))) p (now (events .entry)) r (now (events .exit))) ⌝ }
+    ensures { λ r. ⌜ Reads-part text toks events (tok 8 (G.numbers (K.BUS-KW ∷ K.PROCESSOR-KW ∷ []))) p r ⌝ }
 {
     let kind = current(text, toks, p);
     if (kind == BUS_KW) | (kind == PROCESSOR_KW) {
@@ -104,7 +103,7 @@ fn virtual_kind(text: &[u8], toks: &[u32], events: &mut [u32], p: Parser) -> Par
 
 // A component category, if one stands: `system`, `thread group`, `virtual processor`.
 pub fn component_category(text: &[u8], toks: &[u32], events: &mut [u32], p: Parser) -> Parser
-    ensures { λ r. ⌜ ((d : ℕ) → Read (input (now (text .entry)) (now (toks .entry))) d G.component-category p (now (events .entry)) r (now (events .exit))) ⌝ }
+    ensures { λ r. ⌜ Reads-part text toks events G.component-category p r ⌝ }
 {
     let kind = current(text, toks, p);
     if !is_component_category_kw(kind) {
@@ -129,7 +128,7 @@ pub fn component_category(text: &[u8], toks: &[u32], events: &mut [u32], p: Pars
 
 // The category of a feature or of a component, if one stands: the longest that does.
 pub fn category(text: &[u8], toks: &[u32], events: &mut [u32], p: Parser) -> Parser
-    ensures { λ r. ⌜ ((d : ℕ) → Read (input (now (text .entry)) (now (toks .entry))) d G.category p (now (events .entry)) r (now (events .exit))) ⌝ }
+    ensures { λ r. ⌜ Reads-part text toks events G.category p r ⌝ }
 {
     if at_pair(text, toks, p, DATA_KW, PORT_KW) {
         let p = bump(text, toks, events, p, DATA_KW);

@@ -11,7 +11,7 @@ use lib.IntN.{ℤ}
 use Rattle.predictive.specs.Grammar.{has}
 use Rattle.aadl.specs.Kinds.{PLUS, MINUS, STAR, #_}
 use Rattle.aadl.specs.Symbols.{symbols, start-of}
-use Rattle.aadl.specs.Values.{Operator, plus, minus, times, Outcome, exact, beyond, in-range, number-at}
+use Rattle.aadl.specs.Values.{Operator, plus, minus, times, Outcome, exact, beyond, in-range, joined, number-at}
 use Rattle.wholes.specs.Integers.{integer}
 use Rattle.parser.specs.declared.Parser.{Parser}
 use Rattle.parser.specs.Input.{ahead}
@@ -90,3 +90,8 @@ pub record Then (t : Term) (op : ℕ) (r u : Term) : Type 0 where
   pub stands : u .p ≡ r .p
   pub constant : u .constant ≡ r .constant
   pub outcome : (text : List ℕ) (w : Pending) (b : Outcome) → Waits text w op t → Held text b (r .outcome) → Held text (completed w b) (u .outcome)
+
+-- Two operands x and y and the operator of a kind, which stands at a place, come to r: of every text in which they are outcomes.
+abbrev pub Joins : (op place : ℕ) → (x y r : Told) → Type 0
+Joins op place x y r =
+    (text : List ℕ) (i : ℕ) (a b : Outcome) → place ≡ start-of text i → Held text a x → Held text b y → Held text (joined (operator-of op) i a b) r

@@ -37,7 +37,7 @@ ghost use Rattle.classes.specs.Classes.{class-table};
 ghost use Rattle.wholes.specs.Integers.{most, integer, Result-of};
 ghost use Rattle.section.specs.Standing.{Passed};
 ghost use Rattle.constants.specs.Pass.{evaluated};
-ghost use Rattle.constants.specs.Terms.{operator-of, Held, Then, Signs-passed, Operand-read, Product-read, Sum-read, Arrow-passed, Value-read, First-value};
+ghost use Rattle.constants.specs.Terms.{operator-of, Held, Joins, Then, Signs-passed, Operand-read, Product-read, Sum-read, Arrow-passed, Value-read, First-value};
 
 // What an operand, a product or a sum comes to: a number; or beyond the range, and then where the first literal or operator concerned starts.
 pub struct Outcome {
@@ -93,7 +93,7 @@ fn beyond(place: usize) -> Outcome
 // "Left operand, right operand, then their operator": the first that leaves the range.
 fn join(op: u32, place: usize, x: Outcome, y: Outcome) -> Outcome
     requires { ⌜ (x .whole .size ≤ most) × (y .whole .size ≤ most) ⌝ }
-    ensures { λ r. ⌜ ((text : List ℕ) (i : ℕ) (a b : Vs.Outcome) → place ≡ start-of text i → Held text a x → Held text b y → Held text (Vs.joined (operator-of op) i a b) r) × (r .whole .size ≤ most) ⌝ }
+    ensures { λ r. ⌜ Joins op place x y r × (r .whole .size ≤ most) ⌝ }
 {
     if x.beyond {
         return beyond(x.place);

@@ -24,7 +24,7 @@ ghost use lib.ListN.{length};
 ghost use Rattle.aadl.specs.Limits.{base, Allowed};
 ghost use Rattle.aadl.specs.Symbols.{raw-number};
 ghost use Rattle.aadl.specs.Answers.{token-words};
-ghost use Rattle.aadl.specs.Contracts.{Value-called};
+ghost use Rattle.aadl.specs.Contracts.{Makes-value-call};
 ghost use Rattle.section.specs.Standing.{Passed};
 ghost use Rattle.evaluation.specs.Words as W;
 ghost use Rattle.evaluation.specs.Verdicts.{Was-read, Judged};
@@ -115,7 +115,7 @@ pub fn association_value_within(
     limits: Limits,
 ) -> ValueAnswer
     requires { ⌜ Allowed limits ⌝ }
-    ensures { λ r. ⌜ Value-called limits (now (src .entry)) (now (tokens .entry)) (now (events .entry)) number r (now (tokens .exit)) (now (events .exit)) ⌝ }
+    ensures { λ r. ⌜ Makes-value-call limits src tokens events number r ⌝ }
 {
     let a = property_section_within(src, tokens, events, limits);
     if a.number != 0 {
@@ -153,7 +153,7 @@ pub fn association_value(
     events: &mut [u32],
     number: usize,
 ) -> ValueAnswer
-    ensures { λ r. ⌜ Value-called base (now (src .entry)) (now (tokens .entry)) (now (events .entry)) number r (now (tokens .exit)) (now (events .exit)) ⌝ }
+    ensures { λ r. ⌜ Makes-value-call base src tokens events number r ⌝ }
 {
     association_value_within(src, tokens, events, number, BASE)
 }

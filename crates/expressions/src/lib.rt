@@ -68,7 +68,7 @@ ghost use Rattle.aadl.specs.Section as G;
 ghost use Rattle.parser.specs.declared.Lhs.the-variants.{Node};
 ghost use Rattle.parser.specs.Input.{input};
 ghost use Rattle.parser.specs.State.{with-left};
-ghost use Rattle.parser.specs.Reads.{stands, Read, ReadNode, ReadOperand};
+ghost use Rattle.parser.specs.Reads.{stands, Read, ReadOperand, Reads-within, Reads-node-within, Reads-operand-within};
 ghost use Rattle.expressions.specs.Openers.{beginnings, signed-value, opener-value};
 ghost use Rattle.expressions.specs.Behind.{Extends, ToRange, ToExpression};
 
@@ -108,7 +108,7 @@ fn at_opener(text: &[u8], toks: &[u32], p: Parser) -> bool
 
 // An operand, or message 5 where none stands.
 fn property_expression_primary(text: &[u8], toks: &[u32], events: &mut [u32], p: Parser) -> Operand
-    ensures { λ r. ⌜ ReadOperand (input (now (text .entry)) (now (toks .entry))) (p .left) G.operand p (now (events .entry)) r (now (events .exit)) ⌝ }
+    ensures { λ r. ⌜ Reads-operand-within text toks events (p .left) G.operand p r ⌝ }
 {
     if at_opener(text, toks, p) {
         return opener(text, toks, events, p);
@@ -146,7 +146,7 @@ fn no_operand(text: &[u8], toks: &[u32], events: &mut [u32], p: Parser) -> Opera
 
 // What begins with an opener: refused where none is left.
 fn opener(text: &[u8], toks: &[u32], events: &mut [u32], p: Parser) -> Operand
-    ensures { λ r. ⌜ ReadOperand (input (now (text .entry)) (now (toks .entry))) (p .left) (opens opener-value) p (now (events .entry)) r (now (events .exit)) ⌝ }
+    ensures { λ r. ⌜ Reads-operand-within text toks events (p .left) (opens opener-value) p r ⌝ }
 {
     let left = p.left;
     if left == 0 {
@@ -167,7 +167,7 @@ fn opener(text: &[u8], toks: &[u32], events: &mut [u32], p: Parser) -> Operand
 }
 
 fn not_value(text: &[u8], toks: &[u32], events: &mut [u32], p: Parser) -> Completed
-    ensures { λ r. ⌜ ReadNode (input (now (text .entry)) (now (toks .entry))) (suc (p .left)) G.not-value p (now (events .entry)) r (now (events .exit)) ⌝ }
+    ensures { λ r. ⌜ Reads-node-within text toks events (suc (p .left)) G.not-value p r ⌝ }
 {
     let s = start(events, p);
     let p = bump(text, toks, events, s.p, NOT_KW);
@@ -177,7 +177,7 @@ fn not_value(text: &[u8], toks: &[u32], events: &mut [u32], p: Parser) -> Comple
 }
 
 fn list_value(text: &[u8], toks: &[u32], events: &mut [u32], p: Parser) -> Completed
-    ensures { λ r. ⌜ ReadNode (input (now (text .entry)) (now (toks .entry))) (suc (p .left)) G.list-value p (now (events .entry)) r (now (events .exit)) ⌝ }
+    ensures { λ r. ⌜ Reads-node-within text toks events (suc (p .left)) G.list-value p r ⌝ }
 {
     let s = start(events, p);
     let p = bump(text, toks, events, s.p, L_PAREN);
@@ -195,7 +195,7 @@ fn list_value(text: &[u8], toks: &[u32], events: &mut [u32], p: Parser) -> Compl
 }
 
 fn record_value(text: &[u8], toks: &[u32], events: &mut [u32], p: Parser) -> Completed
-    ensures { λ r. ⌜ ReadNode (input (now (text .entry)) (now (toks .entry))) (suc (p .left)) G.record-value p (now (events .entry)) r (now (events .exit)) ⌝ }
+    ensures { λ r. ⌜ Reads-node-within text toks events (suc (p .left)) G.record-value p r ⌝ }
 {
     let s = start(events, p);
     let mut q = bump(text, toks, events, s.p, L_BRACKET);
@@ -214,7 +214,7 @@ fn record_value(text: &[u8], toks: &[u32], events: &mut [u32], p: Parser) -> Com
 
 // A sign and the operand that it is for, not the sum around them: `-1 + 2` is a sum.
 fn signed_value(text: &[u8], toks: &[u32], events: &mut [u32], p: Parser) -> Completed
-    ensures { λ r. ⌜ ReadNode (input (now (text .entry)) (now (toks .entry))) (suc (p .left)) signed-value p (now (events .entry)) r (now (events .exit)) ⌝ }
+    ensures { λ r. ⌜ Reads-node-within text toks events (suc (p .left)) signed-value p r ⌝ }
 {
     let s = start(events, p);
     let p = bump_any(text, toks, events, s.p);
@@ -275,7 +275,7 @@ fn product(text: &[u8], toks: &[u32], events: &mut [u32], o: Operand) -> Operand
 }
 
 fn multiplicative_expression(text: &[u8], toks: &[u32], events: &mut [u32], p: Parser) -> Operand
-    ensures { λ r. ⌜ ReadOperand (input (now (text .entry)) (now (toks .entry))) (p .left) G.product p (now (events .entry)) r (now (events .exit)) ⌝ }
+    ensures { λ r. ⌜ Reads-operand-within text toks events (p .left) G.product p r ⌝ }
 {
     let o = property_expression_primary(text, toks, events, p);
     product(text, toks, events, o)
@@ -306,7 +306,7 @@ fn sum(text: &[u8], toks: &[u32], events: &mut [u32], o: Operand) -> Operand
 }
 
 fn additive_expression(text: &[u8], toks: &[u32], events: &mut [u32], p: Parser) -> Operand
-    ensures { λ r. ⌜ ReadOperand (input (now (text .entry)) (now (toks .entry))) (p .left) G.sum p (now (events .entry)) r (now (events .exit)) ⌝ }
+    ensures { λ r. ⌜ Reads-operand-within text toks events (p .left) G.sum p r ⌝ }
 {
     let o = multiplicative_expression(text, toks, events, p);
     sum(text, toks, events, o)
@@ -357,7 +357,7 @@ fn expr(text: &[u8], toks: &[u32], events: &mut [u32], o: Operand) -> Parser
 
 // A sum, or a range of two sums; an operand alone, in most cases.
 pub fn property_expression(text: &[u8], toks: &[u32], events: &mut [u32], p: Parser) -> Parser
-    ensures { λ r. ⌜ Read (input (now (text .entry)) (now (toks .entry))) (p .left) G.expression p (now (events .entry)) r (now (events .exit)) ⌝ }
+    ensures { λ r. ⌜ Reads-within text toks events (p .left) G.expression p r ⌝ }
 {
     let left = p.left;
     // a parser of its own: passed on as it came, p would be copied whole on the way in

@@ -27,18 +27,17 @@ use syntax_kind::MODES_KW;
 use syntax_kind::PROTOTYPE_BINDING;
 use syntax_kind::PROTOTYPE_BINDING_LIST;
 use syntax_kind::R_PAREN;
-ghost use Prim.Native.Nat.{ℕ, suc};
+ghost use Prim.Native.Nat.{suc};
 ghost use Rattle.predictive.specs.Grammar.{any};
 ghost use Rattle.predictive.specs.Notation.{maybe};
 ghost use Rattle.aadl.specs.Section as G;
-ghost use Rattle.parser.specs.Input.{input};
-ghost use Rattle.parser.specs.Reads.{Read, ReadNode};
+ghost use Rattle.parser.specs.Reads.{Reads-part, Reads-within, Reads-node-within};
 
 // CLASSIFIERS
 
 // A classifier reference, if a name stands: `Pkg::Type`, `Pkg::Type.Impl`, with bindings after it.
 pub fn classifier_ref(text: &[u8], toks: &[u32], events: &mut [u32], p: Parser) -> Parser
-    ensures { λ r. ⌜ Read (input (now (text .entry)) (now (toks .entry))) (p .left) (maybe G.classifier) p (now (events .entry)) r (now (events .exit)) ⌝ }
+    ensures { λ r. ⌜ Reads-within text toks events (p .left) (maybe G.classifier) p r ⌝ }
 {
     if !at_ident_or_kw(text, toks, p) {
         return p;
@@ -57,7 +56,7 @@ pub fn classifier_ref(text: &[u8], toks: &[u32], events: &mut [u32], p: Parser) 
 
 // `.` and a name, if `.` stands.
 fn implementation(text: &[u8], toks: &[u32], events: &mut [u32], p: Parser) -> Parser
-    ensures { λ r. ⌜ ((d : ℕ) → Read (input (now (text .entry)) (now (toks .entry))) d (maybe G.implementation) p (now (events .entry)) r (now (events .exit))) ⌝ }
+    ensures { λ r. ⌜ Reads-part text toks events (maybe G.implementation) p r ⌝ }
 {
     if at(text, toks, p, DOT) {
         let p = bump(text, toks, events, p, DOT);
@@ -68,7 +67,7 @@ fn implementation(text: &[u8], toks: &[u32], events: &mut [u32], p: Parser) -> P
 
 // Bindings, if `(` stands: an opener.
 fn prototype_bindings(text: &[u8], toks: &[u32], events: &mut [u32], p: Parser) -> Parser
-    ensures { λ r. ⌜ Read (input (now (text .entry)) (now (toks .entry))) (p .left) (maybe G.bindings) p (now (events .entry)) r (now (events .exit)) ⌝ }
+    ensures { λ r. ⌜ Reads-within text toks events (p .left) (maybe G.bindings) p r ⌝ }
 {
     if at(text, toks, p, L_PAREN) {
         let left = p.left;
@@ -82,7 +81,7 @@ fn prototype_bindings(text: &[u8], toks: &[u32], events: &mut [u32], p: Parser) 
 }
 
 fn prototype_binding_list(text: &[u8], toks: &[u32], events: &mut [u32], p: Parser) -> Parser
-    ensures { λ r. ⌜ Read (input (now (text .entry)) (now (toks .entry))) (suc (p .left)) G.binding-list p (now (events .entry)) r (now (events .exit)) ⌝ }
+    ensures { λ r. ⌜ Reads-within text toks events (suc (p .left)) G.binding-list p r ⌝ }
 {
     let s = start(events, p);
     let p = bump(text, toks, events, s.p, L_PAREN);
@@ -94,7 +93,7 @@ fn prototype_binding_list(text: &[u8], toks: &[u32], events: &mut [u32], p: Pars
 
 // Bindings with commas between them, if a name stands.
 fn binding_items(text: &[u8], toks: &[u32], events: &mut [u32], p: Parser) -> Parser
-    ensures { λ r. ⌜ Read (input (now (text .entry)) (now (toks .entry))) (suc (p .left)) (maybe (G.commas (G.binding G.name) (G.binding any))) p (now (events .entry)) r (now (events .exit)) ⌝ }
+    ensures { λ r. ⌜ Reads-within text toks events (suc (p .left)) (maybe (G.commas (G.binding G.name) (G.binding any))) p r ⌝ }
 {
     if at_ident_or_kw(text, toks, p) {
         let mut q = prototype_binding(text, toks, events, p);
@@ -109,7 +108,7 @@ fn binding_items(text: &[u8], toks: &[u32], events: &mut [u32], p: Parser) -> Pa
 
 // One binding, whose head is whatever token stands.
 fn prototype_binding(text: &[u8], toks: &[u32], events: &mut [u32], p: Parser) -> Parser
-    ensures { λ r. ⌜ Read (input (now (text .entry)) (now (toks .entry))) (suc (p .left)) (G.binding any) p (now (events .entry)) r (now (events .exit)) ⌝ }
+    ensures { λ r. ⌜ Reads-within text toks events (suc (p .left)) (G.binding any) p r ⌝ }
 {
     let s = start(events, p);
     let p = bump_any(text, toks, events, s.p);
@@ -123,7 +122,7 @@ fn prototype_binding(text: &[u8], toks: &[u32], events: &mut [u32], p: Parser) -
 
 // `classifier` and a classifier in parentheses.
 pub fn classifier_value(text: &[u8], toks: &[u32], events: &mut [u32], p: Parser) -> Completed
-    ensures { λ r. ⌜ ReadNode (input (now (text .entry)) (now (toks .entry))) (p .left) G.classifier-value p (now (events .entry)) r (now (events .exit)) ⌝ }
+    ensures { λ r. ⌜ Reads-node-within text toks events (p .left) G.classifier-value p r ⌝ }
 {
     let s = start(events, p);
     let p = bump(text, toks, events, s.p, CLASSIFIER_KW);
@@ -137,7 +136,7 @@ pub fn classifier_value(text: &[u8], toks: &[u32], events: &mut [u32], p: Parser
 
 // `in modes` and the modes in parentheses, which the caller has seen to stand.
 pub fn in_modes(text: &[u8], toks: &[u32], events: &mut [u32], p: Parser) -> Parser
-    ensures { λ r. ⌜ ((d : ℕ) → Read (input (now (text .entry)) (now (toks .entry))) d G.in-modes p (now (events .entry)) r (now (events .exit))) ⌝ }
+    ensures { λ r. ⌜ Reads-part text toks events G.in-modes p r ⌝ }
 {
     let p = bump(text, toks, events, p, IN_KW);
     let p = bump(text, toks, events, p, MODES_KW);
@@ -148,7 +147,7 @@ pub fn in_modes(text: &[u8], toks: &[u32], events: &mut [u32], p: Parser) -> Par
 
 // Modes with commas between them, if a name stands.
 fn mode_items(text: &[u8], toks: &[u32], events: &mut [u32], p: Parser) -> Parser
-    ensures { λ r. ⌜ ((d : ℕ) → Read (input (now (text .entry)) (now (toks .entry))) d (maybe (G.commas G.mode (maybe G.mode))) p (now (events .entry)) r (now (events .exit))) ⌝ }
+    ensures { λ r. ⌜ Reads-part text toks events (maybe (G.commas G.mode (maybe G.mode))) p r ⌝ }
 {
     if at_ident_or_kw(text, toks, p) {
         let mut q = mode_or_mapping(text, toks, events, p);
@@ -163,7 +162,7 @@ fn mode_items(text: &[u8], toks: &[u32], events: &mut [u32], p: Parser) -> Parse
 
 // A mode, or a mode and what it is mapped to, if a name stands.
 fn mode_or_mapping(text: &[u8], toks: &[u32], events: &mut [u32], p: Parser) -> Parser
-    ensures { λ r. ⌜ ((d : ℕ) → Read (input (now (text .entry)) (now (toks .entry))) d (maybe G.mode) p (now (events .entry)) r (now (events .exit))) ⌝ }
+    ensures { λ r. ⌜ Reads-part text toks events (maybe G.mode) p r ⌝ }
 {
     if at_ident_or_kw(text, toks, p) {
         let p = bump_any(text, toks, events, p);
@@ -174,7 +173,7 @@ fn mode_or_mapping(text: &[u8], toks: &[u32], events: &mut [u32], p: Parser) -> 
 
 // `=>` and the name of a mode, which may be missing, if `=>` stands.
 fn mapping(text: &[u8], toks: &[u32], events: &mut [u32], p: Parser) -> Parser
-    ensures { λ r. ⌜ ((d : ℕ) → Read (input (now (text .entry)) (now (toks .entry))) d (maybe G.mapping) p (now (events .entry)) r (now (events .exit))) ⌝ }
+    ensures { λ r. ⌜ Reads-part text toks events (maybe G.mapping) p r ⌝ }
 {
     if at(text, toks, p, FAT_ARROW) {
         let p = bump(text, toks, events, p, FAT_ARROW);

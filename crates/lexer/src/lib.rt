@@ -28,7 +28,7 @@ ghost use Rattle.aadl.specs.Utf8.{ill-formed};
 ghost use Rattle.aadl.specs.Tokens.{total, from-token, token-text};
 ghost use Rattle.aadl.specs.NumberParts.{number-parts, bit, part-numbers, Parts-hold};
 ghost use Rattle.aadl.specs.Answers.{refused, token-words};
-ghost use Rattle.aadl.specs.Contracts.{Tokens-called};
+ghost use Rattle.aadl.specs.Contracts.{Makes-tokens-call};
 ghost use Rattle.lexer.specs.Filling.{write, filled-of};
 
 // How far tokens went into words: whether one is left without a word, where it starts or the text ends, how many words are
@@ -254,7 +254,7 @@ pub fn refuse(tokens: &mut [u32], number: u32, place: usize) -> Answer
 // The tokens-only call within limits: the tokens of a text into lent words, or one of the refusals 1 to 3 and 8 with all words zeroed.
 pub fn tokenize_within(src: &[u8], tokens: &mut [u32], limits: Limits) -> Answer
     requires { ⌜ Allowed limits ⌝ }
-    ensures { λ r. ⌜ Tokens-called limits (now (src .entry)) (now (tokens .entry)) r (now (tokens .exit)) ⌝ }
+    ensures { λ r. ⌜ Makes-tokens-call limits src tokens r ⌝ }
 {
     if limits.bytes < src.len() {
         return refuse(tokens, 1, limits.bytes);
@@ -282,7 +282,7 @@ pub fn tokenize_within(src: &[u8], tokens: &mut [u32], limits: Limits) -> Answer
 
 // The tokens-only call: the tokens of a text into lent words, or one of the refusals 1 to 3 and 8 with all words zeroed.
 pub fn tokenize(src: &[u8], tokens: &mut [u32]) -> Answer
-    ensures { λ r. ⌜ Tokens-called base (now (src .entry)) (now (tokens .entry)) r (now (tokens .exit)) ⌝ }
+    ensures { λ r. ⌜ Makes-tokens-call base src tokens r ⌝ }
 {
     tokenize_within(src, tokens, BASE)
 }

@@ -13,7 +13,7 @@ ghost use mathlib.Core.List.{[], _∷_, _++_};
 ghost use lib.ListN.{length};
 ghost use Rattle.aadl.specs.Encoding.{fields, event-in};
 ghost use Rattle.aadl.specs.Listing.{decimal, letter};
-ghost use Rattle.writing.specs.Written.{Wrote};
+ghost use Rattle.writing.specs.Written.{Writes};
 ghost use Rattle.lines.specs.Lines.{line-room, line-of, refusal-line, first-line};
 
 // The listing's first line, and the first field of a refusal with its comma.
@@ -60,7 +60,7 @@ fn fields_in(word: u32) -> Fields
 
 // Writes a number and the byte after it, a comma or LF.
 fn put_field(out: &mut [u8], at: usize, n: u64, after: u8) -> usize
-    ensures { λ r. ⌜ Wrote (now (out .entry)) at (decimal n ++ (after ∷ [])) (now (out .exit)) r ⌝ }
+    ensures { λ r. ⌜ Writes out at (decimal n ++ (after ∷ [])) r ⌝ }
 {
     let end = put_decimal(out, at, n);
     put_byte(out, end, after)
@@ -68,7 +68,7 @@ fn put_field(out: &mut [u8], at: usize, n: u64, after: u8) -> usize
 
 // Writes the line of an event, by its number, its word and its spot.
 pub fn put_line(out: &mut [u8], at: usize, number: usize, word: u32, s: Spot) -> usize
-    ensures { λ r. ⌜ Wrote (now (out .entry)) at (line-of number word (s .line) (s .column)) (now (out .exit)) r × (length (line-of number word (s .line) (s .column)) ≤ line-room) ⌝ }
+    ensures { λ r. ⌜ Writes out at (line-of number word (s .line) (s .column)) r × (length (line-of number word (s .line) (s .column)) ≤ line-room) ⌝ }
 {
     let f = fields_in(word);
     let mut end = put_field(out, at, number as u64, b',');
@@ -82,7 +82,7 @@ pub fn put_line(out: &mut [u8], at: usize, number: usize, word: u32, s: Spot) ->
 
 // Writes the one line of a refusal.
 fn put_refusal(out: &mut [u8], number: u32, place: usize) -> usize
-    ensures { λ r. ⌜ Wrote (now (out .entry)) 0 (refusal-line number place) (now (out .exit)) r × (length (refusal-line number place) ≤ line-room) ⌝ }
+    ensures { λ r. ⌜ Writes out 0 (refusal-line number place) r × (length (refusal-line number place) ≤ line-room) ⌝ }
 {
     let name = REFUSED;
     let mut end = put_text(out, 0, &name);
@@ -92,7 +92,7 @@ fn put_refusal(out: &mut [u8], number: u32, place: usize) -> usize
 
 // Writes the first line: the header, or the one line of a refusal.
 pub fn put_first(out: &mut [u8], a: Answer) -> usize
-    ensures { λ r. ⌜ Wrote (now (out .entry)) 0 (first-line a) (now (out .exit)) r × (length (first-line a) ≤ line-room) ⌝ }
+    ensures { λ r. ⌜ Writes out 0 (first-line a) r × (length (first-line a) ≤ line-room) ⌝ }
 {
     if a.number == 0 {
         let text = HEADER;

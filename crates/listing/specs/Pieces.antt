@@ -8,12 +8,15 @@ use lib.ListN.{length, take, drop}
 use lib.Dec.{leb}
 use Rattle.aadl.specs.declared.Answer.{Answer}
 use Rattle.aadl.specs.declared.Limits.{Limits}
-use Rattle.aadl.specs.Limits.{base}
 use Rattle.aadl.specs.Encoding.{words-for, first-words}
-use Rattle.aadl.specs.Listing.{listing}
+use Rattle.aadl.specs.Listing.{listing-answer, listing}
+use Rattle.aadl.specs.Contracts.{Section-called}
+use Rattle.aadl.specs.Slices.{Slice}
+use Rattle.aadl.specs.Slices as Slices
 use Rattle.parser.specs.Input.{input}
 use Rattle.writing.specs.Written.{Wrote}
 use Rattle.listing.specs.declared.Listing.{Listing}
+use Rattle.listing.specs.declared.Position.{Position}
 use Rattle.lines.specs.Lines.{line-room, first-line}
 use Rattle.listing.specs.Positions.{begin, lines-from}
 
@@ -58,5 +61,24 @@ pub record Gave (room from : ℕ) (lines : List (List ℕ)) (old : List ℕ) (en
 pub record Lists-within (limits : Limits) (text : List ℕ) (bytes : ℕ) (tokens events : List ℕ) (l : Listing) : Type 0 where
   pub lists : (t : List ℕ) → take bytes text ≡ take (length text) t → joined (left text tokens events l) ≡ listing limits t
 
-abbrev pub Lists : (text : List ℕ) → (bytes : ℕ) → (tokens events : List ℕ) → Listing → Type 0
-Lists = Lists-within base
+-- Where a listing begins: the section call on the first bytes answered and left what it answers and leaves; the listing stands before its first line,
+-- with that answer; and it lists the text.
+pub record Begun (limits : Limits) (text : List ℕ) (bytes : ℕ) (tokens events : List ℕ) (l : Listing) (tokens-left events-left : List ℕ) : Type 0 where
+  pub called : Section-called limits (take bytes text) tokens events (l .answer) tokens-left events-left
+  pub stands : l ≡ before text bytes tokens-left (listing-answer limits (take bytes text))
+  pub lists : Lists-within limits text bytes tokens-left events-left l
+
+-- Lines of a listing are given into lent bytes, from a place on, with so much room: from one listing's on to what the next has left.
+module _ (text tokens events out : Slice) (room from : ℕ) where
+  abbrev pub Gives : (l : Listing) → (end : ℕ) → (next : Listing) → Type 0
+  Gives l end next =
+      let rest = left (Slices.before text) (Slices.before tokens) (Slices.before events) in
+      Gave room from (rest l) (Slices.before out) end (rest next) (Slices.after out)
+
+-- The same of the lines of events, from an event and its position on.
+module _ (src toks words out : Slice) where
+  abbrev lines-at : (event : ℕ) → Position → List (List ℕ)
+  lines-at n k = lines-from (input (Slices.before src) (Slices.before toks)) n (drop n (first-words (Slices.before words))) k
+
+  abbrev pub Gives-lines : (from event : ℕ) → Position → (end next : ℕ) → Position → Type 0
+  Gives-lines from n k end m j = Gave (length (Slices.before out) - from) from (lines-at n k) (Slices.before out) end (lines-at m j) (Slices.after out)

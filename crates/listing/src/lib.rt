@@ -19,14 +19,11 @@ use spots::spot_at;
 use writing::least;
 ghost use Prim.Native.Nat.{_-_, _≤_};
 ghost use mathlib.Core.Path.{_≡_};
-ghost use lib.ListN.{length, take, drop};
+ghost use lib.ListN.{length};
 ghost use Rattle.aadl.specs.Limits.{base, Allowed};
-ghost use Rattle.aadl.specs.Encoding.{first-words};
-ghost use Rattle.aadl.specs.Answers.{token-words, event-words, left-in};
-ghost use Rattle.aadl.specs.Listing.{listing-answer};
 ghost use Rattle.parser.specs.Input.{input};
-ghost use Rattle.listing.specs.Positions.{begin as begin-at, step, lines-from};
-ghost use Rattle.listing.specs.Pieces.{left, before, given, Gave, Lists-within, Lists};
+ghost use Rattle.listing.specs.Positions.{begin as begin-at, step};
+ghost use Rattle.listing.specs.Pieces.{given, Gives, Gives-lines, Begun};
 
 // How many bytes of a text are read: one more than may be, so that a longer text is refused for that one.
 pub const READ: usize = 32769;
@@ -101,7 +98,7 @@ fn put_lines(
     from: usize,
 ) -> Reached
     requires { ⌜ from ≤ length (now out) ⌝ }
-    ensures { λ r. ⌜ Gave (length (now (out .entry)) - from) from (lines-from (input (now (src .entry)) (now (toks .entry))) event (drop event (first-words (now (words .entry)))) position) (now (out .entry)) (r .at) (lines-from (input (now (src .entry)) (now (toks .entry))) (r .event) (drop (r .event) (first-words (now (words .entry)))) (r .position)) (now (out .exit)) ⌝ }
+    ensures { λ r. ⌜ Gives-lines src toks words out from event position (r .at) (r .event) (r .position) ⌝ }
 {
     let told = events_told(words);
     let mut at = from;
@@ -131,7 +128,7 @@ fn more(
     from: usize,
 ) -> Piece
     requires { ⌜ from ≤ length (now out) ⌝ }
-    ensures { λ r. ⌜ Gave (length (now (out .entry)) - from) from (left (now (text .entry)) (now (tokens .entry)) (now (events .entry)) (given l)) (now (out .entry)) (r .count) (left (now (text .entry)) (now (tokens .entry)) (now (events .entry)) (r .listing)) (now (out .exit)) ⌝ }
+    ensures { λ r. ⌜ Gives text tokens events out (length (now (out .entry)) - from) from (given l) (r .count) (r .listing) ⌝ }
 {
     let a = l.answer;
     let c = l.position;
@@ -171,7 +168,7 @@ pub fn next_piece(
     l: Listing,
     out: &mut [u8],
 ) -> Piece
-    ensures { λ r. ⌜ Gave (length (now (out .entry))) 0 (left (now (text .entry)) (now (tokens .entry)) (now (events .entry)) l) (now (out .entry)) (r .count) (left (now (text .entry)) (now (tokens .entry)) (now (events .entry)) (r .listing)) (now (out .exit)) ⌝ }
+    ensures { λ r. ⌜ Gives text tokens events out (length (now (out .entry))) 0 l (r .count) (r .listing) ⌝ }
 {
     if l.begun {
         return more(text, tokens, events, l, out, 0);
@@ -197,10 +194,7 @@ fn begin_within(
     limits: Limits,
 ) -> Listing
     requires { ⌜ Allowed limits ⌝ }
-    ensures stands { λ r. ⌜ r ≡ before (now (text .entry)) bytes (now (tokens .exit)) (listing-answer limits (take bytes (now (text .entry)))) ⌝ }
-    ensures token_words { λ r. ⌜ now (tokens .exit) ≡ left-in (listing-answer limits (take bytes (now (text .entry)))) (token-words (take bytes (now (text .entry)))) (now (tokens .entry)) ⌝ }
-    ensures event_words { λ r. ⌜ now (events .exit) ≡ left-in (listing-answer limits (take bytes (now (text .entry)))) (event-words limits (take bytes (now (text .entry)))) (now (events .entry)) ⌝ }
-    ensures lists { λ r. ⌜ Lists-within limits (now (text .entry)) bytes (now (tokens .exit)) (now (events .exit)) r ⌝ }
+    ensures { λ r. ⌜ Begun limits (now (text .entry)) bytes (now (tokens .entry)) (now (events .entry)) r (now (tokens .exit)) (now (events .exit)) ⌝ }
 {
     let text: &[u8] = text;
     let n = least(bytes, READ);
@@ -226,10 +220,7 @@ pub fn begin(
     tokens: &mut [u32; TOKENS],
     events: &mut [u32; EVENTS],
 ) -> Listing
-    ensures stands { λ r. ⌜ r ≡ before (now (text .entry)) bytes (now (tokens .exit)) (listing-answer base (take bytes (now (text .entry)))) ⌝ }
-    ensures token_words { λ r. ⌜ now (tokens .exit) ≡ left-in (listing-answer base (take bytes (now (text .entry)))) (token-words (take bytes (now (text .entry)))) (now (tokens .entry)) ⌝ }
-    ensures event_words { λ r. ⌜ now (events .exit) ≡ left-in (listing-answer base (take bytes (now (text .entry)))) (event-words base (take bytes (now (text .entry)))) (now (events .entry)) ⌝ }
-    ensures lists { λ r. ⌜ Lists (now (text .entry)) bytes (now (tokens .exit)) (now (events .exit)) r ⌝ }
+    ensures { λ r. ⌜ Begun base (now (text .entry)) bytes (now (tokens .entry)) (now (events .entry)) r (now (tokens .exit)) (now (events .exit)) ⌝ }
 {
     begin_within(text, bytes, tokens, events, BASE)
 }

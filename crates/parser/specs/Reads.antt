@@ -9,6 +9,7 @@ use lib.Dec.{eqb}
 use Rattle.predictive.specs.Grammar.{Head, at, Part}
 use Rattle.predictive.specs.Reader.{Result, miss, done, read, first}
 use Rattle.predictive.specs.Events.{Event, behind-start, events-of, left-over}
+use Rattle.aadl.specs.Slices.{Slice, before, after}
 use Rattle.aadl.specs.Section.{Rule, grammar}
 use Rattle.parser.specs.declared.Parser.{Parser}
 use Rattle.parser.specs.declared.Started.{Started}
@@ -17,7 +18,7 @@ use Rattle.parser.specs.declared.Operand.{Operand}
 use Rattle.parser.specs.declared.Marker.{Marker}
 use Rattle.parser.specs.declared.Lhs.{Lhs}
 use Rattle.parser.specs.declared.Lhs.the-variants.{Node, Nothing}
-use Rattle.parser.specs.Input.{Input, rest}
+use Rattle.parser.specs.Input.{Input, input, rest}
 use Rattle.parser.specs.State.{State, state, complete, emit}
 
 -- One of the heads stands; none does once the parser stopped.
@@ -81,3 +82,24 @@ marked used (done f ys) = Node (record { 0 = used - behind-start f })
 pub record ReadOperand (inp : Input) (d : ℕ) (P : Part Rule) (p : Parser) (b : List ℕ) (o : Operand) (c : List ℕ) : Type 0 where
   pub reads : Read inp d P p b (o .p) c
   pub mark : (n : ℕ) → length (rest inp p) < n → p .stop ≡ 0 → o .p .stop ≡ 0 → o .lhs ≡ marked (o .p .used) (reading-at inp n d P p)
+
+-- CONTRACTS ------------------------------------------------------------------------------------------------------------
+
+-- Of a reader to which a text, its token words and event words are lent, which went from the parser p to r.
+module _ (text toks events : Slice) where
+  -- It reads the part P with d openers left; or with any number of them, where no opener is in it.
+  abbrev pub Reads-within : (d : ℕ) → Part Rule → (p r : Parser) → Type 0
+  Reads-within d P p r = Read (input (before text) (before toks)) d P p (before events) r (after events)
+
+  abbrev pub Reads-part : Part Rule → (p r : Parser) → Type 0
+  Reads-part P p r = (d : ℕ) → Reads-within d P p r
+
+  -- The same of a node, and of an operand, a product or a sum.
+  abbrev pub Reads-node-within : (d : ℕ) → Part Rule → Parser → Completed → Type 0
+  Reads-node-within d P p r = ReadNode (input (before text) (before toks)) d P p (before events) r (after events)
+
+  abbrev pub Reads-node : Part Rule → Parser → Completed → Type 0
+  Reads-node P p r = (d : ℕ) → Reads-node-within d P p r
+
+  abbrev pub Reads-operand-within : (d : ℕ) → Part Rule → Parser → Operand → Type 0
+  Reads-operand-within d P p r = ReadOperand (input (before text) (before toks)) d P p (before events) r (after events)

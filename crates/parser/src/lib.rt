@@ -32,7 +32,7 @@ ghost use Rattle.parser.specs.Input as I;
 ghost use Rattle.parser.specs.Input.{input};
 ghost use Rattle.parser.specs.Buffer as B;
 ghost use Rattle.parser.specs.State as S;
-ghost use Rattle.parser.specs.Reads.{Ran, Read, Starts, Completes, stands, heads-of};
+ghost use Rattle.parser.specs.Reads.{Ran, Read, Starts, Completes, stands, heads-of, Reads-part};
 
 // The symbol of a C-style literal, and of the end: no token has either as its kind.
 pub const C_STYLE: u32 = 258;
@@ -444,7 +444,7 @@ pub fn pass(text: &[u8], toks: &[u32], p: Parser) -> Parser
 }
 
 pub fn bump_any(text: &[u8], toks: &[u32], events: &mut [u32], p: Parser) -> Parser
-    ensures { λ r. ⌜ ((d : ℕ) → Read (input (now (text .entry)) (now (toks .entry))) d any p (now (events .entry)) r (now (events .exit))) ⌝ }
+    ensures { λ r. ⌜ Reads-part text toks events any p r ⌝ }
 {
     let symbol = current(text, toks, p);
     if symbol == END {
@@ -474,7 +474,7 @@ fn token_or_error(
     m: u32,
 ) -> Parser
     requires { ⌜ (kind < 256) × (m < 512) ⌝ }
-    ensures { λ r. ⌜ ((d : ℕ) → Read (input (now (text .entry)) (now (toks .entry))) d (tok m (kind ∷ [])) p (now (events .entry)) r (now (events .exit))) ⌝ }
+    ensures { λ r. ⌜ Reads-part text toks events (tok m (kind ∷ [])) p r ⌝ }
 {
     if at(text, toks, p, kind) {
         return bump_any(text, toks, events, p);
@@ -485,7 +485,7 @@ fn token_or_error(
 // .. or after the message that it is missing.
 fn expected(text: &[u8], toks: &[u32], events: &mut [u32], p: Parser, kind: u32) -> Parser
     requires { ⌜ kind < 256 ⌝ }
-    ensures { λ r. ⌜ ((d : ℕ) → Read (input (now (text .entry)) (now (toks .entry))) d (tok (expected kind) (kind ∷ [])) p (now (events .entry)) r (now (events .exit))) ⌝ }
+    ensures { λ r. ⌜ Reads-part text toks events (tok (expected kind) (kind ∷ [])) p r ⌝ }
 {
     token_or_error(text, toks, events, p, kind, 256 + kind)
 }
@@ -494,7 +494,7 @@ fn expected(text: &[u8], toks: &[u32], events: &mut [u32], p: Parser, kind: u32)
 // `never-message-0`, aadl `NeverMissed`).
 fn bumped(text: &[u8], toks: &[u32], events: &mut [u32], p: Parser, kind: u32) -> Parser
     requires { ⌜ kind < 256 ⌝ }
-    ensures { λ r. ⌜ ((d : ℕ) → Read (input (now (text .entry)) (now (toks .entry))) d (tok unmet (kind ∷ [])) p (now (events .entry)) r (now (events .exit))) ⌝ }
+    ensures { λ r. ⌜ Reads-part text toks events (tok unmet (kind ∷ [])) p r ⌝ }
 {
     token_or_error(text, toks, events, p, kind, 0)
 }
@@ -503,7 +503,7 @@ fn bumped(text: &[u8], toks: &[u32], events: &mut [u32], p: Parser, kind: u32) -
 impl Parser {
     pub fn expect(&mut self, text: &[u8], toks: &[u32], events: &mut [u32], kind: u32)
         requires { ⌜ kind < 256 ⌝ }
-        ensures { λ _. ⌜ ((d : ℕ) → Read (input (now (text .entry)) (now (toks .entry))) d (tok (expected kind) (kind ∷ [])) (now (self .entry)) (now (events .entry)) (now (self .exit)) (now (events .exit))) ⌝ }
+        ensures { λ _. ⌜ Reads-part text toks events (tok (expected kind) (kind ∷ [])) (now (self .entry)) (now (self .exit)) ⌝ }
     {
         let next = expected(text, toks, events, *self, kind);
         *self = next;
@@ -511,7 +511,7 @@ impl Parser {
 
     pub fn bump(&mut self, text: &[u8], toks: &[u32], events: &mut [u32], kind: u32)
         requires { ⌜ kind < 256 ⌝ }
-        ensures { λ _. ⌜ ((d : ℕ) → Read (input (now (text .entry)) (now (toks .entry))) d (tok unmet (kind ∷ [])) (now (self .entry)) (now (events .entry)) (now (self .exit)) (now (events .exit))) ⌝ }
+        ensures { λ _. ⌜ Reads-part text toks events (tok unmet (kind ∷ [])) (now (self .entry)) (now (self .exit)) ⌝ }
     {
         let next = bumped(text, toks, events, *self, kind);
         *self = next;
@@ -522,7 +522,7 @@ impl Parser {
 
 pub fn expect(text: &[u8], toks: &[u32], events: &mut [u32], p: Parser, kind: u32) -> Parser
     requires { ⌜ kind < 256 ⌝ }
-    ensures { λ r. ⌜ ((d : ℕ) → Read (input (now (text .entry)) (now (toks .entry))) d (tok (expected kind) (kind ∷ [])) p (now (events .entry)) r (now (events .exit))) ⌝ }
+    ensures { λ r. ⌜ Reads-part text toks events (tok (expected kind) (kind ∷ [])) p r ⌝ }
 {
     let mut q = p;
     q.expect(text, toks, events, kind);
@@ -531,7 +531,7 @@ pub fn expect(text: &[u8], toks: &[u32], events: &mut [u32], p: Parser, kind: u3
 
 pub fn bump(text: &[u8], toks: &[u32], events: &mut [u32], p: Parser, kind: u32) -> Parser
     requires { ⌜ kind < 256 ⌝ }
-    ensures { λ r. ⌜ ((d : ℕ) → Read (input (now (text .entry)) (now (toks .entry))) d (tok unmet (kind ∷ [])) p (now (events .entry)) r (now (events .exit))) ⌝ }
+    ensures { λ r. ⌜ Reads-part text toks events (tok unmet (kind ∷ [])) p r ⌝ }
 {
     let mut q = p;
     q.bump(text, toks, events, kind);

@@ -38,17 +38,15 @@ use syntax_kind::SEMICOLON;
 use syntax_kind::TO_KW;
 use syntax_kind::wide32;
 use values::containment_path;
-ghost use Prim.Native.Nat.{ℕ};
 ghost use Rattle.predictive.specs.Grammar.{seq};
 ghost use Rattle.predictive.specs.Notation.{maybe};
 ghost use Rattle.aadl.specs.Kinds as K;
 ghost use Rattle.aadl.specs.Section as G;
-ghost use Rattle.parser.specs.Input.{input};
-ghost use Rattle.parser.specs.Reads.{Read};
+ghost use Rattle.parser.specs.Reads.{Reads-part, Reads-within};
 
 // The section: `properties`, then `none;` or associations.
 pub fn property_section(text: &[u8], toks: &[u32], events: &mut [u32], p: Parser) -> Parser
-    ensures { λ r. ⌜ Read (input (now (text .entry)) (now (toks .entry))) (p .left) G.section p (now (events .entry)) r (now (events .exit)) ⌝ }
+    ensures { λ r. ⌜ Reads-within text toks events (p .left) G.section p r ⌝ }
 {
     let s = start(events, p);
     let mut q = bump(text, toks, events, s.p, PROPERTIES_KW);
@@ -66,7 +64,7 @@ pub fn property_section(text: &[u8], toks: &[u32], events: &mut [u32], p: Parser
 }
 
 fn property_association(text: &[u8], toks: &[u32], events: &mut [u32], p: Parser) -> Parser
-    ensures { λ r. ⌜ Read (input (now (text .entry)) (now (toks .entry))) (p .left) G.read-association p (now (events .entry)) r (now (events .exit)) ⌝ }
+    ensures { λ r. ⌜ Reads-within text toks events (p .left) G.read-association p r ⌝ }
 {
     let s = start(events, p);
     let p = property_ref(text, toks, events, s.p);
@@ -82,7 +80,7 @@ fn property_association(text: &[u8], toks: &[u32], events: &mut [u32], p: Parser
 
 // `Name` or `PropSet::Name`.
 fn property_ref(text: &[u8], toks: &[u32], events: &mut [u32], p: Parser) -> Parser
-    ensures { λ r. ⌜ ((d : ℕ) → Read (input (now (text .entry)) (now (toks .entry))) d (G.property-ref (G.property-name 3) (G.property-name 2)) p (now (events .entry)) r (now (events .exit))) ⌝ }
+    ensures { λ r. ⌜ Reads-part text toks events (G.property-ref (G.property-name 3) (G.property-name 2)) p r ⌝ }
 {
     let s = start(events, p);
     let p = first_name(text, toks, events, s.p);
@@ -93,7 +91,7 @@ fn property_ref(text: &[u8], toks: &[u32], events: &mut [u32], p: Parser) -> Par
 
 // The first name: an identifier, in most cases, and not worth a call.
 fn first_name(text: &[u8], toks: &[u32], events: &mut [u32], p: Parser) -> Parser
-    ensures { λ r. ⌜ ((d : ℕ) → Read (input (now (text .entry)) (now (toks .entry))) d (G.property-name 3) p (now (events .entry)) r (now (events .exit))) ⌝ }
+    ensures { λ r. ⌜ Reads-part text toks events (G.property-name 3) p r ⌝ }
 {
     if at(text, toks, p, IDENT) {
         return bump(text, toks, events, p, IDENT);
@@ -103,7 +101,7 @@ fn first_name(text: &[u8], toks: &[u32], events: &mut [u32], p: Parser) -> Parse
 
 // `::` and a name, if `::` stands.
 fn name_in_set(text: &[u8], toks: &[u32], events: &mut [u32], p: Parser) -> Parser
-    ensures { λ r. ⌜ ((d : ℕ) → Read (input (now (text .entry)) (now (toks .entry))) d (maybe (seq (G.begun K.COLON-COLON) (G.property-name 2))) p (now (events .entry)) r (now (events .exit))) ⌝ }
+    ensures { λ r. ⌜ Reads-part text toks events (maybe (seq (G.begun K.COLON-COLON) (G.property-name 2))) p r ⌝ }
 {
     if at(text, toks, p, COLON_COLON) {
         let p = bump(text, toks, events, p, COLON_COLON);
@@ -114,7 +112,7 @@ fn name_in_set(text: &[u8], toks: &[u32], events: &mut [u32], p: Parser) -> Pars
 
 // A name that may begin an association, or a message.
 fn property_name(text: &[u8], toks: &[u32], events: &mut [u32], p: Parser, message: u8) -> Parser
-    ensures { λ r. ⌜ ((d : ℕ) → Read (input (now (text .entry)) (now (toks .entry))) d (G.property-name message) p (now (events .entry)) r (now (events .exit))) ⌝ }
+    ensures { λ r. ⌜ Reads-part text toks events (G.property-name message) p r ⌝ }
 {
     if at_name(text, toks, p) {
         return bump_any(text, toks, events, p);
@@ -124,7 +122,7 @@ fn property_name(text: &[u8], toks: &[u32], events: &mut [u32], p: Parser, messa
 
 // `=>` or `+=>`.
 fn arrow(text: &[u8], toks: &[u32], events: &mut [u32], p: Parser) -> Parser
-    ensures { λ r. ⌜ ((d : ℕ) → Read (input (now (text .entry)) (now (toks .entry))) d G.arrow p (now (events .entry)) r (now (events .exit))) ⌝ }
+    ensures { λ r. ⌜ Reads-part text toks events G.arrow p r ⌝ }
 {
     let kind = current(text, toks, p);
     if (kind == FAT_ARROW) | (kind == PLUS_ARROW) {
@@ -135,7 +133,7 @@ fn arrow(text: &[u8], toks: &[u32], events: &mut [u32], p: Parser) -> Parser
 
 // Values, with commas between them.
 fn property_values(text: &[u8], toks: &[u32], events: &mut [u32], p: Parser) -> Parser
-    ensures { λ r. ⌜ Read (input (now (text .entry)) (now (toks .entry))) (p .left) (G.commas G.value G.value) p (now (events .entry)) r (now (events .exit)) ⌝ }
+    ensures { λ r. ⌜ Reads-within text toks events (p .left) (G.commas G.value G.value) p r ⌝ }
 {
     let mut v = p;
     loop {
@@ -149,7 +147,7 @@ fn property_values(text: &[u8], toks: &[u32], events: &mut [u32], p: Parser) -> 
 
 // An expression, and the modes in which it holds, if they stand.
 fn property_value(text: &[u8], toks: &[u32], events: &mut [u32], p: Parser) -> Parser
-    ensures { λ r. ⌜ Read (input (now (text .entry)) (now (toks .entry))) (p .left) G.value p (now (events .entry)) r (now (events .exit)) ⌝ }
+    ensures { λ r. ⌜ Reads-within text toks events (p .left) G.value p r ⌝ }
 {
     let p = property_expression(text, toks, events, p);
     if at_pair(text, toks, p, IN_KW, MODES_KW) {
@@ -163,7 +161,7 @@ fn property_value(text: &[u8], toks: &[u32], events: &mut [u32], p: Parser) -> P
 
 // `applies to` and paths, if `applies` stands.
 fn applies_to(text: &[u8], toks: &[u32], events: &mut [u32], p: Parser) -> Parser
-    ensures { λ r. ⌜ ((d : ℕ) → Read (input (now (text .entry)) (now (toks .entry))) d (maybe G.applies-to) p (now (events .entry)) r (now (events .exit))) ⌝ }
+    ensures { λ r. ⌜ Reads-part text toks events (maybe G.applies-to) p r ⌝ }
 {
     if at(text, toks, p, APPLIES_KW) {
         let s = start(events, p);
@@ -178,7 +176,7 @@ fn applies_to(text: &[u8], toks: &[u32], events: &mut [u32], p: Parser) -> Parse
 
 // Paths, with commas between them.
 fn paths(text: &[u8], toks: &[u32], events: &mut [u32], p: Parser) -> Parser
-    ensures { λ r. ⌜ ((d : ℕ) → Read (input (now (text .entry)) (now (toks .entry))) d (G.commas G.path G.path) p (now (events .entry)) r (now (events .exit))) ⌝ }
+    ensures { λ r. ⌜ Reads-part text toks events (G.commas G.path G.path) p r ⌝ }
 {
     let mut q = p;
     loop {
@@ -192,7 +190,7 @@ fn paths(text: &[u8], toks: &[u32], events: &mut [u32], p: Parser) -> Parser
 
 // `in binding` and a classifier in parentheses, if `in binding` stands.
 fn in_binding(text: &[u8], toks: &[u32], events: &mut [u32], p: Parser) -> Parser
-    ensures { λ r. ⌜ Read (input (now (text .entry)) (now (toks .entry))) (p .left) (maybe G.in-binding) p (now (events .entry)) r (now (events .exit)) ⌝ }
+    ensures { λ r. ⌜ Reads-within text toks events (p .left) (maybe G.in-binding) p r ⌝ }
 {
     if at_pair(text, toks, p, IN_KW, BINDING_KW) {
         let s = start(events, p);

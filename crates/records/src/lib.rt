@@ -17,7 +17,7 @@ ghost use lib.ListN.{length, take, replicate};
 ghost use Rattle.aadl.specs.Words.{bytes};
 ghost use Rattle.aadl.specs.Listing.{decimal};
 ghost use Rattle.aadl.specs.NumberParts.{part-numbers};
-ghost use Rattle.writing.specs.Written.{Wrote};
+ghost use Rattle.writing.specs.Written.{Writes};
 ghost use Rattle.records.specs.Records.{old-word, spaced, line, count, rest, named-answer, word-lines, more-lines, record-lines, tree-lines, value-lines};
 
 // What every lent word holds before a call.
@@ -69,7 +69,7 @@ fn rest_of(words: &[u32], number: u32, used: usize) -> usize
 
 // A space and a number.
 fn put_number(out: &mut [u8], at: usize, n: u64) -> usize
-    ensures { λ r. ⌜ Wrote (now (out .entry)) at (32 ∷ decimal n) (now (out .exit)) r ⌝ }
+    ensures { λ r. ⌜ Writes out at (32 ∷ decimal n) r ⌝ }
 {
     let end = put_byte(out, at, b' ');
     put_decimal(out, end, n)
@@ -77,7 +77,7 @@ fn put_number(out: &mut [u8], at: usize, n: u64) -> usize
 
 // Words, each after a space.
 fn put_words(out: &mut [u8], at: usize, words: &[u32]) -> usize
-    ensures { λ r. ⌜ Wrote (now (out .entry)) at (spaced (now (words .entry))) (now (out .exit)) r ⌝ }
+    ensures { λ r. ⌜ Writes out at (spaced (now (words .entry))) r ⌝ }
 {
     let mut end = least(at, out.len());
     let mut i = 0;
@@ -90,7 +90,7 @@ fn put_words(out: &mut [u8], at: usize, words: &[u32]) -> usize
 
 // Numbers, each after a space.
 fn put_numbers(out: &mut [u8], at: usize, numbers: &[usize]) -> usize
-    ensures { λ r. ⌜ Wrote (now (out .entry)) at (spaced (now (numbers .entry))) (now (out .exit)) r ⌝ }
+    ensures { λ r. ⌜ Writes out at (spaced (now (numbers .entry))) r ⌝ }
 {
     let mut end = least(at, out.len());
     let mut i = 0;
@@ -103,7 +103,7 @@ fn put_numbers(out: &mut [u8], at: usize, numbers: &[usize]) -> usize
 
 // A line of numbers after a name.
 fn put_row(out: &mut [u8], at: usize, name: &[u8], numbers: &[usize]) -> usize
-    ensures { λ r. ⌜ Wrote (now (out .entry)) at (line (now (name .entry)) (now (numbers .entry))) (now (out .exit)) r ⌝ }
+    ensures { λ r. ⌜ Writes out at (line (now (name .entry)) (now (numbers .entry))) r ⌝ }
 {
     let mut end = put_text(out, at, name);
     end = put_numbers(out, end, numbers);
@@ -112,7 +112,7 @@ fn put_row(out: &mut [u8], at: usize, name: &[u8], numbers: &[usize]) -> usize
 
 // A line of the first words after a name.
 fn put_line(out: &mut [u8], at: usize, name: &[u8], words: &[u32], used: usize) -> usize
-    ensures { λ r. ⌜ Wrote (now (out .entry)) at (line (now (name .entry)) (take used (now (words .entry)))) (now (out .exit)) r ⌝ }
+    ensures { λ r. ⌜ Writes out at (line (now (name .entry)) (take used (now (words .entry)))) r ⌝ }
 {
     let n = least(used, words.len());
     let mut end = put_text(out, at, name);
@@ -122,7 +122,7 @@ fn put_line(out: &mut [u8], at: usize, name: &[u8], words: &[u32], used: usize) 
 
 // An answer's five numbers after their name. The line ends behind what a call adds to them.
 fn put_answer(out: &mut [u8], at: usize, a: Answer) -> usize
-    ensures { λ r. ⌜ Wrote (now (out .entry)) at (named-answer a) (now (out .exit)) r ⌝ }
+    ensures { λ r. ⌜ Writes out at (named-answer a) r ⌝ }
 {
     let end = put_text(out, at, b"answer");
     let five = [a.number as usize, a.place, a.tokens, a.taken, a.events];
@@ -131,7 +131,7 @@ fn put_answer(out: &mut [u8], at: usize, a: Answer) -> usize
 
 // The end of the answer's line, and the lines of the token and event words, two of these for each event.
 fn put_buffers(out: &mut [u8], at: usize, a: Answer, tokens: &[u32], events: &[u32]) -> usize
-    ensures { λ r. ⌜ Wrote (now (out .entry)) at (10 ∷ word-lines a (now (tokens .entry)) (now (events .entry))) (now (out .exit)) r ⌝ }
+    ensures { λ r. ⌜ Writes out at (10 ∷ word-lines a (now (tokens .entry)) (now (events .entry))) r ⌝ }
 {
     let used = least(a.events, events.len()) * EVENT_WORDS;
     let mut end = put_byte(out, at, b'\n');
@@ -146,7 +146,7 @@ fn put_buffers(out: &mut [u8], at: usize, a: Answer, tokens: &[u32], events: &[u
 
 // The lines of words that a call writes besides: those that it used, and how many of the others keep what they held.
 fn put_more(out: &mut [u8], at: usize, number: u32, used: usize, words: &[u32]) -> usize
-    ensures { λ r. ⌜ Wrote (now (out .entry)) at (more-lines number used (now (words .entry))) (now (out .exit)) r ⌝ }
+    ensures { λ r. ⌜ Writes out at (more-lines number used (now (words .entry))) r ⌝ }
 {
     let end = put_line(out, at, b"more", words, used);
     let left = [rest_of(words, number, used)];
@@ -155,7 +155,7 @@ fn put_more(out: &mut [u8], at: usize, number: u32, used: usize, words: &[u32]) 
 
 // The four lines of a record.
 pub fn put_record(out: &mut [u8], at: usize, a: Answer, tokens: &[u32], events: &[u32]) -> usize
-    ensures { λ r. ⌜ Wrote (now (out .entry)) at (record-lines a [] (now (tokens .entry)) (now (events .entry))) (now (out .exit)) r ⌝ }
+    ensures { λ r. ⌜ Writes out at (record-lines a [] (now (tokens .entry)) (now (events .entry))) r ⌝ }
 {
     let end = put_answer(out, at, a);
     put_buffers(out, end, a, tokens, events)
@@ -170,7 +170,7 @@ pub fn put_tree(
     events: &[u32],
     records: &[u32],
 ) -> usize
-    ensures { λ r. ⌜ Wrote (now (out .entry)) at (tree-lines a (now (tokens .entry)) (now (events .entry)) (now (records .entry))) (now (out .exit)) r ⌝ }
+    ensures { λ r. ⌜ Writes out at (tree-lines a (now (tokens .entry)) (now (events .entry)) (now (records .entry))) r ⌝ }
 {
     let answer = a.answer;
     let used = least(a.records, records.len()) * 4;
@@ -188,7 +188,7 @@ pub fn put_valued(
     tokens: &[u32],
     events: &[u32],
 ) -> usize
-    ensures { λ r. ⌜ Wrote (now (out .entry)) at (value-lines a (now (tokens .entry)) (now (events .entry))) (now (out .exit)) r ⌝ }
+    ensures { λ r. ⌜ Writes out at (value-lines a (now (tokens .entry)) (now (events .entry))) r ⌝ }
 {
     let answer = a.answer;
     let mut end = put_answer(out, at, answer);
@@ -199,7 +199,7 @@ pub fn put_valued(
 
 // The line of a record of number parts.
 pub fn put_parts(out: &mut [u8], at: usize, n: Number) -> usize
-    ensures { λ r. ⌜ Wrote (now (out .entry)) at (line (bytes "parts") (part-numbers n)) (now (out .exit)) r ⌝ }
+    ensures { λ r. ⌜ Writes out at (line (bytes "parts") (part-numbers n)) r ⌝ }
 {
     let eight = part_numbers(n);
     put_row(out, at, b"parts", &eight)

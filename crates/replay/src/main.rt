@@ -17,7 +17,7 @@ ghost use mathlib.Core.Path.{_≡_};
 ghost use mathlib.Core.Bool.{false};
 ghost use lib.ListN.{length, replicate};
 ghost use Rattle.aadl.specs.Words.{bytes};
-ghost use Rattle.writing.specs.Written.{Wrote};
+ghost use Rattle.writing.specs.Written.{Writes};
 ghost use Rattle.aadl.specs.Answers.{token-words, left-in};
 ghost use Rattle.replay.specs.Calls.{answer-of, events-left, called, tree-called, parts-called, value-called, made, Stands-whole};
 ghost use Rattle.replay.specs.Heads.{number-at, head-from, extended, known, record-head, lent-records};
@@ -101,7 +101,7 @@ fn call(
     out: &mut [u8],
     at: usize,
 ) -> usize
-    ensures { λ r. ⌜ Wrote (now (out .entry)) at (called only (now (src .entry)) (length (now (tokens .entry))) (length (now (events .entry)))) (now (out .exit)) r ⌝ }
+    ensures { λ r. ⌜ Writes out at (called only (now (src .entry)) (length (now (tokens .entry))) (length (now (events .entry)))) r ⌝ }
 {
     fill(tokens);
     fill(events);
@@ -118,7 +118,7 @@ fn call_tree(
     out: &mut [u8],
     at: usize,
 ) -> usize
-    ensures { λ r. ⌜ Wrote (now (out .entry)) at (tree-called (now (src .entry)) (length (now (tokens .entry))) (length (now (events .entry))) (length (now (records .entry)))) (now (out .exit)) r ⌝ }
+    ensures { λ r. ⌜ Writes out at (tree-called (now (src .entry)) (length (now (tokens .entry))) (length (now (events .entry))) (length (now (records .entry)))) r ⌝ }
 {
     fill(tokens);
     fill(events);
@@ -129,7 +129,7 @@ fn call_tree(
 
 // Makes a record's tokens-only call on words that are filled anew, and puts the parts of one of its tokens.
 fn call_parts(src: &[u8], tokens: &mut [u32], number: usize, out: &mut [u8], at: usize) -> usize
-    ensures { λ r. ⌜ Wrote (now (out .entry)) at (parts-called (now (src .entry)) (length (now (tokens .entry))) number) (now (out .exit)) r ⌝ }
+    ensures { λ r. ⌜ Writes out at (parts-called (now (src .entry)) (length (now (tokens .entry))) number) r ⌝ }
 {
     fill(tokens);
     lexer::tokenize(src, tokens);
@@ -145,7 +145,7 @@ fn call_value(
     out: &mut [u8],
     at: usize,
 ) -> usize
-    ensures { λ r. ⌜ Wrote (now (out .entry)) at (value-called (now (src .entry)) (length (now (tokens .entry))) (length (now (events .entry))) number) (now (out .exit)) r ⌝ }
+    ensures { λ r. ⌜ Writes out at (value-called (now (src .entry)) (length (now (tokens .entry))) (length (now (events .entry))) number) r ⌝ }
 {
     fill(tokens);
     fill(events);
@@ -163,7 +163,7 @@ fn make(
     out: &mut [u8],
     at: usize,
 ) -> usize
-    ensures { λ r. ⌜ Wrote (now (out .entry)) at (made h (now (src .entry)) (length (now (tokens .entry))) (length (now (events .entry))) (length (now (records .entry)))) (now (out .exit)) r ⌝ }
+    ensures { λ r. ⌜ Writes out at (made h (now (src .entry)) (length (now (tokens .entry))) (length (now (events .entry))) (length (now (records .entry)))) r ⌝ }
 {
     if h.call == TREE {
         return call_tree(src, tokens, events, records, out, at);
@@ -220,7 +220,7 @@ fn head_of(front: &[u8; 16], back: &[u8; 16]) -> Head
 
 // The line for a record that ends early, asks for too much or for a call that there is none of. Nothing more is read after it.
 fn bad(out: &mut [u8], at: usize) -> Step
-    ensures { λ r. ⌜ Wrote (now (out .entry)) at (bytes "bad record\n") (now (out .exit)) (r .at) × (r .on ≡ false) ⌝ }
+    ensures { λ r. ⌜ Writes out at (bytes "bad record\n") (r .at) × (r .on ≡ false) ⌝ }
 {
     let next = put_text(out, at, b"bad record\n");
     Step {

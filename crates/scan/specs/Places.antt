@@ -7,7 +7,8 @@ use lib.ListN.{length, getD}
 use lib.Dec.{eqb}
 use Rattle.aadl.specs.Kinds.{#_, WHITESPACE, IDENT, INTEGER-LIT, STRING-LIT}
 use Rattle.aadl.specs.Bytes.{is-ident-continue}
-use Rattle.classes.specs.Classes.{lead-of}
+use Rattle.keywords.specs.Tables.{Lent}
+use Rattle.classes.specs.Classes.{lead-of, lead-table, class-table}
 
 -- At a place in the text stands a byte that says k of the token that begins with it.
 pub record Begins (s : List ℕ) (at k : ℕ) : Type 0 where
@@ -39,3 +40,8 @@ last-gap s (suc n) =
 pub record Bounds (s : List ℕ) (bound : ℕ) : Type 0 where
   pub inside : 1 ≤ bound → bound < length s
   pub ends : 1 ≤ bound → is-ident-continue (getD s bound 0) ≡ false
+
+-- A token can be scanned at a place: it is within the text, words end before a bound, and the lent tables are the constants.
+abbrev pub Can-scan : (s : List ℕ) → (at bound : ℕ) → (leads classes letters starts lengths kinds slots : List ℕ) → Type 0
+Can-scan s at bound leads classes letters starts lengths kinds slots =
+    (at + 1 ≤ length s) × Bounds s bound × (leads ≡ lead-table) × (classes ≡ class-table) × Lent letters starts lengths kinds slots

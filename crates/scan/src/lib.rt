@@ -53,7 +53,7 @@ ghost use Rattle.aadl.specs.Tokens.{token, quoted, unbased, exponent-end, radix
 ghost use Rattle.keywords.specs.Tables.{Lent};
 ghost use Rattle.classes.specs.Classes.{lead-table, class-table};
 ghost use Rattle.scan.specs.Inner.{single, longest};
-ghost use Rattle.scan.specs.Places.{Begins, Dashes, last-gap, Bounds, Other};
+ghost use Rattle.scan.specs.Places.{Begins, Dashes, last-gap, Bounds, Other, Can-scan};
 
 fn token(kind: u32, len: usize) -> Token
     ensures { λ r. ⌜ r ≡ token kind len ⌝ }
@@ -426,7 +426,7 @@ pub fn scan_token(
     kinds: &[u8; 82],
     slots: &[u8; 256],
 ) -> Token
-    requires { ⌜ (at + 1 ≤ length (now s)) × Bounds (now s) bound × (now leads ≡ lead-table) × (now classes ≡ class-table) × Lent (now letters) (now starts) (now lengths) (now kinds) (now slots) ⌝ }
+    requires { ⌜ Can-scan (now s) at bound (now leads) (now classes) (now letters) (now starts) (now lengths) (now kinds) (now slots) ⌝ }
     ensures { λ r. ⌜ r ≡ token-of (drop at (now (s .entry))) ⌝ }
 {
     let k = lead(s[at], leads);

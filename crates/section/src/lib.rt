@@ -25,7 +25,7 @@ ghost use Rattle.aadl.specs.Limits.{base, Allowed};
 ghost use Rattle.aadl.specs.Encoding.{events-in};
 ghost use Rattle.aadl.specs.Answers.{token-words};
 ghost use Rattle.aadl.specs.Demand.{solid-words, is-clean};
-ghost use Rattle.aadl.specs.Contracts.{Section-called};
+ghost use Rattle.aadl.specs.Contracts.{Makes-section-call};
 ghost use Rattle.section.specs.Replies.{Sectioned};
 
 // The section of a text whose token words are lent: the Rust panics where `properties` does not stand, here the parser stops with 4.
@@ -49,7 +49,7 @@ pub fn property_section_within(
     limits: Limits,
 ) -> Answer
     requires { ⌜ Allowed limits ⌝ }
-    ensures { λ r. ⌜ Section-called limits (now (src .entry)) (now (tokens .entry)) (now (events .entry)) r (now (tokens .exit)) (now (events .exit)) ⌝ }
+    ensures { λ r. ⌜ Makes-section-call limits src tokens events r ⌝ }
 {
     let a = tokenize_within(src, tokens, limits);
     if a.number != 0 {
@@ -73,7 +73,7 @@ pub fn property_section_within(
 // The section call: the tokens of a text and the events of its section into lent words, or one of the refusals 1 to 6 and 8 with all
 // words zeroed.
 pub fn property_section(src: &[u8], tokens: &mut [u32], events: &mut [u32]) -> Answer
-    ensures { λ r. ⌜ Section-called base (now (src .entry)) (now (tokens .entry)) (now (events .entry)) r (now (tokens .exit)) (now (events .exit)) ⌝ }
+    ensures { λ r. ⌜ Makes-section-call base src tokens events r ⌝ }
 {
     property_section_within(src, tokens, events, BASE)
 }

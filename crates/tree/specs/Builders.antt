@@ -1,16 +1,19 @@
 -- What the code keeps of a walk: its numbers in a Builder, its records in the first of the lent words. Assumes nothing.
-use Prim.Native.Nat.{ℕ, suc, _*_, _≤_, _<_}
+use Prim.Native.Nat.{ℕ, suc, _+_, _*_, _≤_, _<_}
 use mathlib.Core.Path.{_≡_}
 use mathlib.Core.Logic.{_⊎_}
 use mathlib.Core.List.{List, _++_, map}
 use lib.ListN.{length, getD, drop}
+use lib.Seq.{sets}
+use Rattle.predictive.specs.Events.{Event}
+use Rattle.aadl.specs.Slices.{Slice, before, after}
 use Rattle.aadl.specs.Limits.{most-events}
 use Rattle.aadl.specs.Tokens.{kind-in}
-use Rattle.aadl.specs.Encoding.{event-in}
+use Rattle.aadl.specs.Encoding.{event-in, first-words, told-by}
 use Rattle.aadl.specs.Records.{Record, record-room, words-of-records}
-use Rattle.aadl.proofs.Lists.{Each}
+use Rattle.aadl.specs.Calls.{Each}
 use Rattle.tree.specs.declared.Builder.{Builder}
-use Rattle.tree.specs.Walk.{Walk, walk, root}
+use Rattle.tree.specs.Walk.{links, opened, Walk, walk, root}
 
 -- Records over the first words, and then the old contents.
 abbrev pub laid : List Record → (old : List ℕ) → List ℕ
@@ -45,6 +48,22 @@ pub record Full (old : List ℕ) (w v : Walk) (b : Builder) (words : List ℕ) :
 -- What a builder is after an event, where the walk was w and is v.
 abbrev pub Stepped : (old : List ℕ) → (i : ℕ) → (w v : Walk) → Builder → (words : List ℕ) → Type 0
 Stepped old i w v b words = Holds old i v b words ⊎ Full old w v b words
+
+-- An event does to a builder and the lent words what the step f does to the walk.
+abbrev pub Steps-by : (f : ℕ → List Event → Walk → Walk) → (events records : Slice) → (i : ℕ) → (b r : Builder) → Type 0
+Steps-by f events records i b r =
+    (old : List ℕ) (w : Walk) → Holds old i w b (before records) → Stepped old (suc i) w (f i (drop i (told-by (before events))) w) r (after records)
+
+-- The n Starts of the chain that begins with event i can be opened: each has room for a record, and the numbers fit words.
+abbrev pub Can-open : (events records : List ℕ) → (i n : ℕ) → Builder → Type 0
+Can-open events records i n b =
+    (n ≡ length (links 0 (told-by events) i)) × ((b .records + n) * 4 ≤ length records) × (b .records + n < 4294967296) × (b .innermost < 4294967296)
+    × (b .taken < 4294967296) × (length (first-words events) ≤ most-events)
+
+-- The record words once that chain is opened.
+abbrev pub chain-opened : (events : List ℕ) → (i : ℕ) → Builder → (old : List ℕ) → List ℕ
+chain-opened events i b old =
+    sets old (b .records * 4) (words-of-records (opened (b .innermost) (b .records) (b .taken) (links 0 (told-by events) i)))
 
 -- The walk over the events that first words tell.
 abbrev pub walked : (first-words : List ℕ) → Walk

@@ -25,9 +25,9 @@ ghost use Rattle.aadl.specs.Symbols.{start-of};
 ghost use Rattle.aadl.specs.Encoding.{first-words, told-by};
 ghost use Rattle.aadl.specs.Answers.{token-words};
 ghost use Rattle.aadl.specs.Records.{of-node, words-of-records, with-records};
-ghost use Rattle.aadl.specs.Contracts.{Tree-called};
+ghost use Rattle.aadl.specs.Contracts.{Makes-tree-call};
 ghost use Rattle.tree.specs.Walk.{links, opened, Walk, begun, closed, turn};
-ghost use Rattle.tree.specs.Builders.{Holds, Stepped, Built};
+ghost use Rattle.tree.specs.Builders.{Can-open, chain-opened, Holds, Steps-by, Built};
 
 // A tree that is being built: how many records its nodes so far need, the innermost open node's record, the tokens taken. Where it
 // needs more records than there are, it is not built further.
@@ -82,8 +82,8 @@ fn put_record(
 
 // Opens the nodes of a chain of n Starts that begins with event i: from the chain's end, the innermost node first.
 fn open_chain(events: &[u32], records: &mut [u32], i: usize, n: usize, b: Builder)
-    requires { ⌜ (n ≡ length (links 0 (told-by (now events)) i)) × ((b .records + n) * 4 ≤ length (now records)) × (b .records + n < 4294967296) × (b .innermost < 4294967296) × (b .taken < 4294967296) × (length (first-words (now events)) ≤ most-events) ⌝ }
-    ensures { λ r. ⌜ now (records .exit) ≡ sets (now (records .entry)) (b .records * 4) (words-of-records (opened (b .innermost) (b .records) (b .taken) (links 0 (told-by (now (events .entry))) i))) ⌝ }
+    requires { ⌜ Can-open (now events) (now records) i n b ⌝ }
+    ensures { λ r. ⌜ now (records .exit) ≡ chain-opened (now (events .entry)) i b (now (records .entry)) ⌝ }
 {
     let mut at = i;
     let mut number = b.records + n;
@@ -105,7 +105,7 @@ fn open_chain(events: &[u32], records: &mut [u32], i: usize, n: usize, b: Builde
 // A Start: it was used by an earlier one if it is the innermost open node's own; else it opens its chain.
 fn start(events: &[u32], records: &mut [u32], i: usize, b: Builder) -> Builder
     requires { ⌜ (i < length (first-words (now events))) × (length (first-words (now events)) ≤ most-events) × ((old : List ℕ) × ((w : Walk) × Holds old i w b (now records))) ⌝ }
-    ensures { λ r. ⌜ ((old : List ℕ) (w : Walk) → Holds old i w b (now (records .entry)) → Stepped old (suc i) w (begun i (drop i (told-by (now (events .entry)))) w) r (now (records .exit))) ⌝ }
+    ensures { λ r. ⌜ Steps-by begun events records i b r ⌝ }
 {
     if records[b.innermost * 4 + 3] == i as u32 {
         return b;
@@ -146,7 +146,7 @@ fn finish(records: &mut [u32], i: usize, b: Builder) -> Builder
 // What an event does to the tree.
 fn turn(events: &[u32], records: &mut [u32], i: usize, b: Builder) -> Builder
     requires { ⌜ (i < length (first-words (now events))) × (length (first-words (now events)) ≤ most-events) × ((old : List ℕ) × ((w : Walk) × Holds old i w b (now records))) ⌝ }
-    ensures { λ r. ⌜ ((old : List ℕ) (w : Walk) → Holds old i w b (now (records .entry)) → Stepped old (suc i) w (turn i (drop i (told-by (now (events .entry)))) w) r (now (records .exit))) ⌝ }
+    ensures { λ r. ⌜ Steps-by turn events records i b r ⌝ }
 {
     let class = class_in(first_word(events, i));
     if class == 0 {
@@ -234,7 +234,7 @@ pub fn property_tree_within(
     limits: Limits,
 ) -> TreeAnswer
     requires { ⌜ Allowed limits ⌝ }
-    ensures { λ r. ⌜ Tree-called limits (now (src .entry)) (now (tokens .entry)) (now (events .entry)) (now (records .entry)) r (now (tokens .exit)) (now (events .exit)) (now (records .exit)) ⌝ }
+    ensures { λ r. ⌜ Makes-tree-call limits src tokens events records r ⌝ }
 {
     let a = property_section_within(src, tokens, events, limits);
     if a.number != 0 {
@@ -260,7 +260,7 @@ pub fn property_tree(
     events: &mut [u32],
     records: &mut [u32],
 ) -> TreeAnswer
-    ensures { λ r. ⌜ Tree-called base (now (src .entry)) (now (tokens .entry)) (now (events .entry)) (now (records .entry)) r (now (tokens .exit)) (now (events .exit)) (now (records .exit)) ⌝ }
+    ensures { λ r. ⌜ Makes-tree-call base src tokens events records r ⌝ }
 {
     property_tree_within(src, tokens, events, records, BASE)
 }

@@ -32,20 +32,18 @@ use syntax_kind::REFERENCE_KW;
 use syntax_kind::REFERENCE_VALUE;
 use syntax_kind::STRING_LIT;
 use syntax_kind::STRING_VALUE;
-ghost use Prim.Native.Nat.{ℕ};
 ghost use Rattle.predictive.specs.Grammar.{any, seq, fail, many, opt, unless};
 ghost use Rattle.predictive.specs.Notation.{maybe};
 ghost use Rattle.predictive.specs.Reader.{ones};
 ghost use Rattle.aadl.specs.Kinds as K;
 ghost use Rattle.aadl.specs.Section as G;
-ghost use Rattle.parser.specs.Input.{input};
-ghost use Rattle.parser.specs.Reads.{Read, ReadNode};
+ghost use Rattle.parser.specs.Reads.{Reads-part, Reads-node};
 
 // PATHS
 
 // `..` and an integer, which may be missing, if `..` stands.
 fn index_end(text: &[u8], toks: &[u32], events: &mut [u32], p: Parser) -> Parser
-    ensures { λ r. ⌜ ((d : ℕ) → Read (input (now (text .entry)) (now (toks .entry))) d (maybe G.index-end) p (now (events .entry)) r (now (events .exit))) ⌝ }
+    ensures { λ r. ⌜ Reads-part text toks events (maybe G.index-end) p r ⌝ }
 {
     if at(text, toks, p, DOT_DOT) {
         let p = bump(text, toks, events, p, DOT_DOT);
@@ -56,7 +54,7 @@ fn index_end(text: &[u8], toks: &[u32], events: &mut [u32], p: Parser) -> Parser
 
 // An integer, a range of integers, a name, or nothing.
 fn index(text: &[u8], toks: &[u32], events: &mut [u32], p: Parser) -> Parser
-    ensures { λ r. ⌜ ((d : ℕ) → Read (input (now (text .entry)) (now (toks .entry))) d (maybe G.index) p (now (events .entry)) r (now (events .exit))) ⌝ }
+    ensures { λ r. ⌜ Reads-part text toks events (maybe G.index) p r ⌝ }
 {
     if at(text, toks, p, INTEGER_LIT) {
         let p = bump(text, toks, events, p, INTEGER_LIT);
@@ -66,7 +64,7 @@ fn index(text: &[u8], toks: &[u32], events: &mut [u32], p: Parser) -> Parser
 }
 
 fn array_subscripts(text: &[u8], toks: &[u32], events: &mut [u32], p: Parser) -> Parser
-    ensures { λ r. ⌜ ((d : ℕ) → Read (input (now (text .entry)) (now (toks .entry))) d (many G.subscript) p (now (events .entry)) r (now (events .exit))) ⌝ }
+    ensures { λ r. ⌜ Reads-part text toks events (many G.subscript) p r ⌝ }
 {
     let mut q = p;
     while at(text, toks, q, L_BRACKET) {
@@ -78,7 +76,7 @@ fn array_subscripts(text: &[u8], toks: &[u32], events: &mut [u32], p: Parser) ->
 }
 
 fn segment(text: &[u8], toks: &[u32], events: &mut [u32], p: Parser) -> Parser
-    ensures { λ r. ⌜ ((d : ℕ) → Read (input (now (text .entry)) (now (toks .entry))) d (maybe G.segment) p (now (events .entry)) r (now (events .exit))) ⌝ }
+    ensures { λ r. ⌜ Reads-part text toks events (maybe G.segment) p r ⌝ }
 {
     if at(text, toks, p, IDENT) {
         let p = bump(text, toks, events, p, IDENT);
@@ -89,7 +87,7 @@ fn segment(text: &[u8], toks: &[u32], events: &mut [u32], p: Parser) -> Parser
 
 // The segments of a path, if a name stands.
 fn segments(text: &[u8], toks: &[u32], events: &mut [u32], p: Parser) -> Parser
-    ensures { λ r. ⌜ ((d : ℕ) → Read (input (now (text .entry)) (now (toks .entry))) d (maybe G.segments) p (now (events .entry)) r (now (events .exit))) ⌝ }
+    ensures { λ r. ⌜ Reads-part text toks events (maybe G.segments) p r ⌝ }
 {
     let mut q = p;
     if at(text, toks, q, IDENT) {
@@ -106,7 +104,7 @@ fn segments(text: &[u8], toks: &[u32], events: &mut [u32], p: Parser) -> Parser
 
 // A path, which may have no segment: `sub1.sub2[1].feature`.
 pub fn containment_path(text: &[u8], toks: &[u32], events: &mut [u32], p: Parser) -> Parser
-    ensures { λ r. ⌜ ((d : ℕ) → Read (input (now (text .entry)) (now (toks .entry))) d G.path p (now (events .entry)) r (now (events .exit))) ⌝ }
+    ensures { λ r. ⌜ Reads-part text toks events G.path p r ⌝ }
 {
     let s = start(events, p);
     let p = segments(text, toks, events, s.p);
@@ -118,7 +116,7 @@ pub fn containment_path(text: &[u8], toks: &[u32], events: &mut [u32], p: Parser
 
 // An integer and its unit, if it has one.
 pub fn integer_value(text: &[u8], toks: &[u32], events: &mut [u32], p: Parser) -> Completed
-    ensures { λ r. ⌜ ((d : ℕ) → ReadNode (input (now (text .entry)) (now (toks .entry))) d G.integer-value p (now (events .entry)) r (now (events .exit))) ⌝ }
+    ensures { λ r. ⌜ Reads-node text toks events G.integer-value p r ⌝ }
 {
     let s = start(events, p);
     let q = bump(text, toks, events, s.p, INTEGER_LIT);
@@ -127,7 +125,7 @@ pub fn integer_value(text: &[u8], toks: &[u32], events: &mut [u32], p: Parser) -
 }
 
 pub fn real_value(text: &[u8], toks: &[u32], events: &mut [u32], p: Parser) -> Completed
-    ensures { λ r. ⌜ ((d : ℕ) → ReadNode (input (now (text .entry)) (now (toks .entry))) d G.real-value p (now (events .entry)) r (now (events .exit))) ⌝ }
+    ensures { λ r. ⌜ Reads-node text toks events G.real-value p r ⌝ }
 {
     let s = start(events, p);
     let p = bump(text, toks, events, s.p, REAL_LIT);
@@ -136,7 +134,7 @@ pub fn real_value(text: &[u8], toks: &[u32], events: &mut [u32], p: Parser) -> C
 }
 
 pub fn string_value(text: &[u8], toks: &[u32], events: &mut [u32], p: Parser) -> Completed
-    ensures { λ r. ⌜ ((d : ℕ) → ReadNode (input (now (text .entry)) (now (toks .entry))) d G.string-value p (now (events .entry)) r (now (events .exit))) ⌝ }
+    ensures { λ r. ⌜ Reads-node text toks events G.string-value p r ⌝ }
 {
     let s = start(events, p);
     let p = bump(text, toks, events, s.p, STRING_LIT);
@@ -145,7 +143,7 @@ pub fn string_value(text: &[u8], toks: &[u32], events: &mut [u32], p: Parser) ->
 
 // `true` or `false`.
 pub fn boolean_value(text: &[u8], toks: &[u32], events: &mut [u32], p: Parser) -> Completed
-    ensures { λ r. ⌜ ((d : ℕ) → ReadNode (input (now (text .entry)) (now (toks .entry))) d (G.node K.BOOLEAN-VALUE any) p (now (events .entry)) r (now (events .exit))) ⌝ }
+    ensures { λ r. ⌜ Reads-node text toks events (G.node K.BOOLEAN-VALUE any) p r ⌝ }
 {
     let s = start(events, p);
     let p = bump_any(text, toks, events, s.p);
@@ -153,7 +151,7 @@ pub fn boolean_value(text: &[u8], toks: &[u32], events: &mut [u32], p: Parser) -
 }
 
 pub fn reference_value(text: &[u8], toks: &[u32], events: &mut [u32], p: Parser) -> Completed
-    ensures { λ r. ⌜ ((d : ℕ) → ReadNode (input (now (text .entry)) (now (toks .entry))) d G.reference-value p (now (events .entry)) r (now (events .exit))) ⌝ }
+    ensures { λ r. ⌜ Reads-node text toks events G.reference-value p r ⌝ }
 {
     let s = start(events, p);
     let p = bump(text, toks, events, s.p, REFERENCE_KW);
@@ -164,7 +162,7 @@ pub fn reference_value(text: &[u8], toks: &[u32], events: &mut [u32], p: Parser)
 }
 
 pub fn computed_value(text: &[u8], toks: &[u32], events: &mut [u32], p: Parser) -> Completed
-    ensures { λ r. ⌜ ((d : ℕ) → ReadNode (input (now (text .entry)) (now (toks .entry))) d G.computed-value p (now (events .entry)) r (now (events .exit))) ⌝ }
+    ensures { λ r. ⌜ Reads-node text toks events G.computed-value p r ⌝ }
 {
     let s = start(events, p);
     let p = bump(text, toks, events, s.p, COMPUTE_KW);
@@ -176,7 +174,7 @@ pub fn computed_value(text: &[u8], toks: &[u32], events: &mut [u32], p: Parser) 
 
 // A name right after an operand's `::`, which may be missing.
 fn name_after(text: &[u8], toks: &[u32], events: &mut [u32], p: Parser) -> Parser
-    ensures { λ r. ⌜ ((d : ℕ) → Read (input (now (text .entry)) (now (toks .entry))) d (opt (unless (ones G.names)) G.name) p (now (events .entry)) r (now (events .exit))) ⌝ }
+    ensures { λ r. ⌜ Reads-part text toks events (opt (unless (ones G.names)) G.name) p r ⌝ }
 {
     if at_ident_or_kw(text, toks, p) {
         return bump_any(text, toks, events, p);
@@ -186,7 +184,7 @@ fn name_after(text: &[u8], toks: &[u32], events: &mut [u32], p: Parser) -> Parse
 
 // A named value, an enumeration literal or a property constant.
 pub fn named_value(text: &[u8], toks: &[u32], events: &mut [u32], p: Parser) -> Completed
-    ensures { λ r. ⌜ ((d : ℕ) → ReadNode (input (now (text .entry)) (now (toks .entry))) d G.named-value p (now (events .entry)) r (now (events .exit))) ⌝ }
+    ensures { λ r. ⌜ Reads-node text toks events G.named-value p r ⌝ }
 {
     let s = start(events, p);
     let mut q = bump(text, toks, events, s.p, IDENT);
@@ -199,7 +197,7 @@ pub fn named_value(text: &[u8], toks: &[u32], events: &mut [u32], p: Parser) -> 
 
 // A C-style literal, which is not valid AADL.
 pub fn c_style_value(text: &[u8], toks: &[u32], events: &mut [u32], p: Parser) -> Completed
-    ensures { λ r. ⌜ ((d : ℕ) → ReadNode (input (now (text .entry)) (now (toks .entry))) d (G.node K.ERROR (seq (fail 4) any)) p (now (events .entry)) r (now (events .exit))) ⌝ }
+    ensures { λ r. ⌜ Reads-node text toks events (G.node K.ERROR (seq (fail 4) any)) p r ⌝ }
 {
     let s = start(events, p);
     let p = error(events, s.p, 4);

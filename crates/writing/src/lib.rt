@@ -6,7 +6,7 @@ ghost use mathlib.Core.Path.{_≡_};
 ghost use mathlib.Core.List.{[], _∷_};
 ghost use lib.ListN.{length, drop};
 ghost use Rattle.aadl.specs.Listing.{decimal};
-ghost use Rattle.writing.specs.Written.{Wrote};
+ghost use Rattle.writing.specs.Written.{Writes};
 ghost use Rattle.writing.specs.SignedDecimal.{signed-decimal};
 
 // The lesser of two.
@@ -18,7 +18,7 @@ pub fn least(a: usize, b: usize) -> usize
 
 // Writes one byte, and says where it ends.
 pub fn put_byte(out: &mut [u8], at: usize, b: u8) -> usize
-    ensures { λ r. ⌜ Wrote (now (out .entry)) at (b ∷ []) (now (out .exit)) r ⌝ }
+    ensures { λ r. ⌜ Writes out at (b ∷ []) r ⌝ }
 {
     if at < out.len() {
         out[at] = b;
@@ -29,7 +29,7 @@ pub fn put_byte(out: &mut [u8], at: usize, b: u8) -> usize
 
 // Writes a text, and says where it ends.
 pub fn put_text(out: &mut [u8], at: usize, text: &[u8]) -> usize
-    ensures { λ r. ⌜ Wrote (now (out .entry)) at (now (text .entry)) (now (out .exit)) r ⌝ }
+    ensures { λ r. ⌜ Writes out at (now (text .entry)) r ⌝ }
 {
     let mut end = least(at, out.len());
     let mut i = 0;
@@ -59,7 +59,7 @@ fn spell(n: u64, digits: &mut [u8]) -> usize
 
 // Writes a number in decimal, and says where it ends.
 pub fn put_decimal(out: &mut [u8], at: usize, n: u64) -> usize
-    ensures { λ r. ⌜ Wrote (now (out .entry)) at (decimal n) (now (out .exit)) r ⌝ }
+    ensures { λ r. ⌜ Writes out at (decimal n) r ⌝ }
 {
     let mut digits = [0u8; 20];
     let from = spell(n, &mut digits);
@@ -68,7 +68,7 @@ pub fn put_decimal(out: &mut [u8], at: usize, n: u64) -> usize
 
 // Writes a signed number in decimal, and says where it ends.
 pub fn put_signed(out: &mut [u8], at: usize, v: i64) -> usize
-    ensures { λ r. ⌜ Wrote (now (out .entry)) at (signed-decimal v) (now (out .exit)) r ⌝ }
+    ensures { λ r. ⌜ Writes out at (signed-decimal v) r ⌝ }
 {
     let w = from_i64(v);
     if v < 0 {

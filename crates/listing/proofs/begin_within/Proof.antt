@@ -1,16 +1,17 @@
 -- What the section call answers and leaves has the listing's lines, of the first bytes and so of the whole text (EndToEnd). Assumes nothing.
 use native.Mathlib.Omega.{arith}
-use mathlib.Core.Path.{_≡_, sym, ap, _∙_}
+use mathlib.Core.Path.{_≡_, sym, ap, subst, _∙_}
 use mathlib.Core.Bool.{false}
 use mathlib.Core.List.{List}
 use Prim.Native.Nat.{ℕ}
 use lib.ListN.{length, take}
 use lib.Seq.{length-take-le}
-use Rattle.aadl.specs.Answers.{section-answer, token-words, event-words, left-in}
+use Rattle.aadl.specs.Answers.{section-answer}
+use Rattle.aadl.specs.Contracts.{Section-called}
 use Rattle.aadl.specs.Listing.{lent-tokens, lent-events, listing}
 use Rattle.writing.proofs.LeastLaws.{take-least}
 use Rattle.parser.specs.Input.{input}
-use Rattle.aadl.proofs.CallsRead.{section-answered, tokens-left, events-left}
+use Rattle.aadl.proofs.CallsRead.{section-answered}
 use Rattle.listing.specs.Positions.{begin}
 use Rattle.listing.specs.Pieces.{joined, left}
 use Rattle.listing.proofs.EndToEnd.{answer-lines, call-listed, first-bytes-listed}
@@ -53,20 +54,17 @@ returns c =
     let position-is = k .ensures ∙ ap (λ (l : List ℕ). begin (input src l)) t in
     let listed = call-listed (r .ensures) (at-text .before .pre) m n (k .result) position-is in
     let told = section-answered (r .ensures) ∙ (λ i. section-answer (x .limits) (s i) (m i) (n i)) in
-    let position-told = position-is ∙ (λ i. begin (input (s i) (take (told i .tokens) ts))) in (
-      (λ i. record { bytes = x .bytes; answer = told i; begun = false; event = 0; position = position-told i }),
-      (
-        tokens-left (r .ensures) ∙ (λ i. left-in (told i) (token-words (s i)) (x .tokens .now)),
-        (
-          events-left (r .ensures) ∙ (λ i. left-in (told i) (event-words (x .limits) (s i)) (x .events .now)),
+    let position-told = position-is ∙ (λ i. begin (input (s i) (take (told i .tokens) ts))) in
+    record {
+      called = subst (λ (l : List ℕ). Section-called (x .limits) l (x .tokens .now) (x .events .now) a ts es) s (r .ensures);
+      stands = λ i. record { bytes = x .bytes; answer = told i; begun = false; event = 0; position = position-told i };
+      lists =
           record {
             lists =
                 λ t e. (λ i. joined (answer-lines (sym s i) ts es a (k .result))) ∙ listed ∙ ap (listing (x .limits)) (s ∙ e)
                 ∙ first-bytes-listed (x .limits) t (length (x .text .now)) (omega (arith, long, at-text .before .pre));
-          },
-        ),
-      ),
-    )
+          };
+    }
 
 pub begin-within-spec : {M : Type 1} → statement M
 begin-within-spec = tie.close (tie.spec (λ c κs. search needs) count-src (λ c κs. search needs) (λ c κs. search needs) count-toks (λ c κs. search needs) returns)
