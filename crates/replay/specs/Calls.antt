@@ -3,9 +3,10 @@ use Prim.Native.Nat.{ℕ, _+_, _<_}
 use mathlib.Core.Path.{_≡_}
 use mathlib.Core.Bool.{Bool, true, cond}
 use mathlib.Core.List.{List, []}
-use lib.ListN.{length, take, replicate}
+use lib.ListN.{length, replicate}
 use lib.Seq.{sets}
 use lib.Dec.{eqb}
+use Rattle.aadl.specs.Slices.{Slice, before, after}
 use Rattle.aadl.specs.Limits.{base}
 use Rattle.aadl.specs.Answers.{tokens-answer, section-answer, token-words, event-words, left-in}
 use Rattle.aadl.specs.Records.{record-words, tree-answer}
@@ -16,7 +17,7 @@ use Rattle.aadl.specs.NumberParts.{number-parts, part-numbers}
 use Rattle.records.specs.Records.{old-word, line, record-lines, tree-lines, value-lines}
 use Rattle.replay.specs.declared.Head.{Head}
 use Rattle.replay.specs.declared.Step.{Step}
-use Rattle.replay.specs.Heads.{tree, parts, value, lent-records}
+use Rattle.replay.specs.Heads.{tree, parts, value}
 
 abbrev pub answer-of : (only : Bool) → (text : List ℕ) → (tokens events : ℕ) → Answer
 answer-of only text m n = cond only (tokens-answer base text m) (section-answer base text m n)
@@ -62,9 +63,6 @@ made h text m n k =
     (cond (eqb (h .call) value) (value-called text m n (h .own))
     (called (h .only) text m n)))
 
--- Where another record may follow, the lines of the call that a record asks for stand whole in the bytes that wait, from a place on; and what stood before
--- is kept.
-pub record Stands-whole (h : Head) (text old : List ℕ) (at : ℕ) (new : List ℕ) (r : Step) : Type 0 where
-  pub whole : r .on ≡ true →
-      let lines = made h (take (h .text) text) (h .tokens) (h .events) (lent-records h) in
-      (r .at ≡ at + length lines) × (r .at < length old) × (new ≡ sets old at lines)
+-- Where another record may follow, a record's lines stand whole in the bytes that wait, from a place on, and what stood before is kept.
+pub record Stands-whole (lines : List ℕ) (out : Slice) (at : ℕ) (r : Step) : Type 0 where
+  pub whole : r .on ≡ true → (r .at ≡ at + length lines) × (r .at < length (before out)) × (after out ≡ sets (before out) at lines)

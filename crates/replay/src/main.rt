@@ -31,7 +31,7 @@ const RECORDS: usize = 160000;
 
 // How many bytes wait to be written at the most, and with how many left they are written out: 11 for each word, and some for names and numbers. A record has
 // 40,000 token words at the most, 65,536 event words, two for each of 32,768 events, and 65,536 record words, since each node has two events. Nothing rests on
-// that: lines that had no room would be a bad record (`lend`).
+// that: lines that had no room would be a bad record (`answered`).
 const OUT: usize = 1984832;
 
 const LINES: usize = 1882192;
@@ -247,7 +247,26 @@ fn lent_records(h: Head) -> usize
     0
 }
 
-// Lends what a record asks for, if there is as much. Another record may follow only where its lines stand whole.
+// Makes the call that a record asks for. Another record may follow only where its lines stand whole.
+fn answered(
+    h: Head,
+    src: &[u8],
+    tokens: &mut [u32],
+    events: &mut [u32],
+    records: &mut [u32],
+    out: &mut [u8],
+    at: usize,
+) -> Step
+    ensures { λ r. ⌜ Stands-whole (made h (now (src .entry)) (length (now (tokens .entry))) (length (now (events .entry))) (length (now (records .entry)))) out at r ⌝ }
+{
+    let next = make(h, src, tokens, events, records, out, at);
+    if out.len() <= next {
+        return bad(out, at);
+    }
+    Step { at: next, on: true }
+}
+
+// Lends what a record asks for, if there is as much.
 fn lend(
     text: &[u8],
     tokens: &mut [u32],
@@ -256,9 +275,7 @@ fn lend(
     h: Head,
     out: &mut [u8],
     at: usize,
-) -> Step
-    ensures { λ r. ⌜ Stands-whole h (now (text .entry)) (now (out .entry)) at (now (out .exit)) r ⌝ }
-{
+) -> Step {
     let n = h.text;
     let t = h.tokens;
     let e = h.events;
@@ -266,7 +283,7 @@ fn lend(
     if text.len() < n || tokens.len() < t || events.len() < e || records.len() < m {
         return bad(out, at);
     }
-    let next = make(
+    answered(
         h,
         &text[0..n],
         &mut tokens[0..t],
@@ -274,11 +291,7 @@ fn lend(
         &mut records[0..m],
         out,
         at,
-    );
-    if out.len() <= next {
-        return bad(out, at);
-    }
-    Step { at: next, on: true }
+    )
 }
 
 // Reads a record's text and answers the record.

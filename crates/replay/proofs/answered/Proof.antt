@@ -1,0 +1,26 @@
+-- The lines end before the bytes do, so none of them was left out. Assumes nothing.
+use Prim.Native.Nat.{ℕ, _+_, _<_, min}
+use native.Mathlib.Omega.{arith}
+use mathlib.Core.Path.{_≡_, sym, _∙_}
+use mathlib.Core.List.{List}
+use lib.ListN.{length}
+use borrow.Author.Needs.{needs}
+use Rattle.predictive.proofs.Tests.{never}
+use Rattle.writing.specs.Written.{Wrote}
+use Rattle.replay.proofs.answered.Statement.{statement}
+use Rattle.replay.proofs.answered.Tie as tie
+
+all-there : {old lines new : List ℕ} {at end : ℕ} → Wrote old at lines new end → end < length old → end ≡ at + length lines
+all-there {old} {lines} {at} w l = omega (arith, w .ends, l)
+
+returns : tie.Need-returns
+returns c = record { whole = λ e. never (sym (c .before .before .bad .ensures .1) ∙ e) }
+
+returns-2 : tie.Need-returns-2
+returns-2 c = ?
+
+pub answered-spec : {M : Type 1} → statement M
+answered-spec =
+    tie.close
+    (tie.spec (λ c κs. search needs) (λ c κs. search needs) (λ c. search needs) (λ c. search needs) (λ c. search needs) (λ c. search needs) returns
+    (λ c. search needs) (λ c. search needs) (λ c. search needs) (λ c. search needs) returns-2)
