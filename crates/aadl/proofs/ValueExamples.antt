@@ -2,7 +2,7 @@
 use Prim.Native.Nat.{ℕ}
 use Prim.Native.String.{String}
 use mathlib.Core.Path.{_≡_, refl}
-use mathlib.Core.List.{_++_}
+use mathlib.Core.List.{[], _∷_, _++_}
 use lib.IntN.{pos, negsuc}
 use Rattle.predictive.specs.Forest.{leaves}
 use Rattle.aadl.specs.declared.ValueAnswer.{ValueAnswer}
@@ -49,6 +49,7 @@ pub record Exact : Type 0 where
   pub based : first-value "16#F_F# + 2 * 3" ≡ with-value (answered 16 9 25) (pos 261)
   pub leading-zeros : first-value "0016#_f#" ≡ with-value (answered 8 5 13) (pos 15)
   pub base-two : first-value "2#1_0#" ≡ with-value (answered 8 5 13) (pos 2)
+  pub digit-edges : digits (bytes "/09:@AF_G`afg.") ≡ 16 ∷ 0 ∷ 9 ∷ 16 ∷ 16 ∷ 10 ∷ 15 ∷ 16 ∷ 16 ∷ 10 ∷ 15 ∷ 16 ∷ 16 ∷ []
   pub highest-digit : first-value "11#A# + 10#9#" ≡ with-value (answered 12 7 19) (pos 19)
 
 pub exactly : Exact
@@ -70,6 +71,7 @@ exactly =
       based = refl;
       leading-zeros = refl;
       base-two = refl;
+      digit-edges = refl;
       highest-digit = refl;
     }
 
