@@ -1,28 +1,24 @@
 -- What every call tells that refuses nothing, proved once: of the tokens-only call (`tokens-told` ..), of the section call (`section-read`), of any call that
 -- goes on from it (`extension-read`). Assumes nothing.
-use Prim.Native.Nat.{ℕ, _≤_, _<_}
+use Prim.Native.Nat.{ℕ, _<_}
 use native.Mathlib.Omega.{arith}
 use mathlib.Core.Path.{_≡_, refl, sym, ap, subst, _∙_}
-use mathlib.Core.Bool.{Bool}
 use mathlib.Core.List.{List, [], _∷_, _++_}
-use lib.ListN.{length, getD, take, drop, length-map, length-take}
-use lib.Seq.{take-at}
+use lib.ListN.{length, getD, drop}
 use Rattle.aadl.specs.declared.Answer.{Answer}
 use Rattle.aadl.specs.Limits.{Limits, Allowed}
-use Rattle.aadl.specs.Tokens.{tokens, token-word, Strings-closed}
-use Rattle.aadl.specs.Symbols.{symbols, raw-number}
+use Rattle.aadl.specs.Tokens.{tokens, Strings-closed}
+use Rattle.aadl.specs.Symbols.{symbols}
 use Rattle.aadl.specs.WordKinds.{Words-told}
 use Rattle.aadl.specs.NumberParts.{Numbers-told}
-use Rattle.aadl.specs.Encoding.{words-for}
 use Rattle.aadl.specs.Reading.{events}
-use Rattle.aadl.specs.Answers.{section-checks, all-answered, tokens-answer, section-answer, left-in, token-words, event-words}
-use Rattle.aadl.specs.Calls.{Form, plain, lent, Call, number-of, left, Did, filled, Extension, extending, tokens-call, reading-events, section-call, Answered-whole, Settled}
+use Rattle.aadl.specs.Answers.{all-answered, tokens-answer, section-answer, left-in, token-words, event-words}
+use Rattle.aadl.specs.Calls.{Form, lent, number-of, Did, filled, Extension, extending, tokens-call, reading-events, section-call, Answered-whole, Settled}
 use Rattle.aadl.specs.EventTokens.{Tokens-known}
 use Rattle.aadl.specs.Demand.{answered-events, Read-as-derived}
 use Rattle.aadl.specs.Contracts.{Tokens-called, Section-called, Read-whole}
 use Rattle.aadl.proofs.Settled.{Sound, settled, whole}
 use Rattle.aadl.proofs.Extending.{first's}
-use Rattle.aadl.proofs.EventPairs.{length-words-of}
 use Rattle.aadl.proofs.AnswerDerived.{Answered, answered-whole, told, answer-derived}
 use Rattle.aadl.proofs.EventTokens.{tokens-known}
 use Rattle.aadl.proofs.TokenText.{Tokens-read, text-read, read-told}

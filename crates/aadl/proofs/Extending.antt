@@ -7,7 +7,7 @@ use mathlib.Core.List.{List, [], _∷_, _++_, map}
 use lib.ListN.{length, take}
 use Rattle.aadl.specs.declared.Answer.{Answer}
 use Rattle.aadl.specs.Answers.{Check, check, refused, checked}
-use Rattle.aadl.specs.Calls.{Form, plain, Buffer, Call, refusing, number-of, answer-of, left, Did, Extension, extending, in-front, Each, Fails, filled, zeroed, Answered-whole}
+use Rattle.aadl.specs.Calls.{Form, plain, Call, refusing, number-of, answer-of, left, Did, Extension, extending, in-front, Each, Fails, filled, zeroed, Answered-whole}
 use Rattle.aadl.proofs.Checks.{checks-pass, refuses-alike, first-fail, last-fail}
 use Rattle.aadl.proofs.Settled.{Sound, whole, all-filled, all-zeroed}
 

@@ -1,5 +1,5 @@
--- No reading of a section has message 0, which stands where the Rust would panic (`bump`) or not end, and none has message
--- 3, which 01 says is "never met here": the section grammar passes the test of `Unmet`, which is computed. Only
+-- No reading of a section has message 0, which stands where the Rust would panic (`bump`) or not end, and none has
+-- message 3, which 01 says is "never met here": the section grammar passes the test of `Unmet`, which is computed. Only
 -- `Classifier` asks that a token with which it begins stands. Assumes nothing.
 use Prim.Native.Nat.{ℕ, suc}
 use native.Mathlib.Omega.{arith}

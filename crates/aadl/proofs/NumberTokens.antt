@@ -1,7 +1,7 @@
 -- The numbers among the tokens of a text (`numbers-told`): a token is a number exactly if a digit stands at its start, and its parts are those
 -- of its text, read by itself, by the law of locality, nothing being behind it. So of the words that a call left (`tokens-numbers` of the
 -- tokens-only call). Assumes nothing.
-use Prim.Native.Nat.{ℕ, zero, suc, _+_, _≤_, _<_}
+use Prim.Native.Nat.{ℕ, zero, suc, _≤_, _<_}
 use native.Mathlib.Nat.{not-suc-le-zero}
 use native.Mathlib.Omega.{arith}
 use mathlib.Core.Path.{_≡_, refl, sym, ap, _∙_}
@@ -13,13 +13,11 @@ use lib.Dec.{eqb}
 use borrow.Author.Tests.{eqb-true, eq-eqb, ne-eqb}
 use Rattle.predictive.proofs.Tests.{never, and-false-r, or-neither}
 use Rattle.aadl.specs.declared.Token.{Token}
-use Rattle.aadl.specs.declared.Answer.{Answer}
-use Rattle.aadl.specs.Limits.{Limits, Allowed}
 use Rattle.aadl.specs.Kinds.{ERROR, INTEGER-LIT, REAL-LIT, #_}
 use Rattle.aadl.specs.Bytes.{peek, is-digit, is-ident-continue, run}
 use Rattle.aadl.specs.Tokens.{number-of, number-lit, word-of, mark-of, token-of, tokens, kind-in, length-in, from-token, token-text}
 use Rattle.aadl.specs.NumberParts.{no-number, number-parts, is-number, Numbers-told}
-use Rattle.aadl.specs.Answers.{text-checks, all-tokens, tokens-answer, left-in, token-words}
+use Rattle.aadl.specs.Answers.{token-words}
 use Rattle.aadl.proofs.Bools.{false-unless, bounds}
 use Rattle.aadl.proofs.TokenBounds.{token-cases, token-positive, number-upto, number-kind, word-kind, mark-kind}
 use Rattle.aadl.proofs.Separators.{nothing-separates}

@@ -173,18 +173,6 @@ pub text-upwards : (limits : Limits) (text : List ℕ) → Upwards (text-records
 text-upwards limits text =
     rw (rooted-records limits text, taken-inside limits (symbols text)) (records-upwards (# PROPERTY-SECTION) (rooted limits (symbols text) .inside))
 
--- So the tokens below every node are among the root's.
-pub within-root : (rs : List Record) (k count : ℕ) → Upwards rs k count → (r : ℕ) → r < length rs → record-at rs r .first + record-at rs r .below ≤ count
-within-root rs k count up r l = go (suc r) r (le-refl (suc r)) l
-  where
-    go : (n r : ℕ) → r < n → r < length rs → record-at rs r .first + record-at rs r .below ≤ count
-    go zero r h l = absurd (not-suc-le-zero h)
-    go (suc n) zero h l = rw (up .root) (omega arith)
-    go (suc n) (suc r) h l =
-        let p = record-at rs (suc r) .parent in
-        let b = up .before (suc r) (omega arith) l in
-        omega (arith, up .ends (suc r) l, go n p (omega (arith, b, h)) (omega (arith, b, l)))
-
 -- RUNS -----------------------------------------------------------------------------------------------------------------
 
 -- The forests inside the nodes, in the order in which nodes open: that of their records.
@@ -227,12 +215,6 @@ module _ (tokens : List ℕ) where
   told-append (r ∷ rs) ss [] js h g = absurd h
   told-append (r ∷ rs) ss (i ∷ is) js h g = (h .0, told-append rs ss is js (h .1) g)
 
-  told-length : (rs : List Record) (is : List Forest) → All-told rs is → length is ≡ length rs
-  told-length [] [] h = refl
-  told-length [] (i ∷ is) h = absurd h
-  told-length (r ∷ rs) [] h = absurd h
-  told-length (r ∷ rs) (i ∷ is) h = ap suc (told-length rs is (h .1))
-
   told-at : (rs : List Record) (is : List Forest) → All-told rs is → (r : ℕ) → r < length rs → Told (record-at rs r) (getD is r nil)
   told-at [] is h r l = absurd (not-suc-le-zero l)
   told-at (q ∷ rs) [] h r l = absurd h
@@ -263,10 +245,6 @@ module _ (tokens : List ℕ) where
       let inner = told-append js ls (insides a) (insides b) first second in
       let beside = all-told f p m s (run-back t s ks (leaves f) refl h) in
       (leaves-then a b ∙ run-taken t ks front, told-append (js ++ ls) (records-from f p m s) (insides a ++ insides b) (insides f) inner beside)
-
-pub length-insides : (f : Forest) → length (insides f) ≡ length (records f)
-unfolding records
-length-insides f = told-length (leaves f) (records f) (insides f) (all-told (leaves f) f 0 0 0 ([], sym (append-nil (leaves f))))
 
 -- A node's tokens are one run of the forest's, from its record's first token on, as many as are below it ..
 pub run-of-node : (f : Forest) (r : ℕ) → r < length (records f) →

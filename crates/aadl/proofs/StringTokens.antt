@@ -1,10 +1,10 @@
 -- The strings of a text that passes check 8 (`strings-closed`): the text of each, read by itself, is one string and closed. By the law of locality,
 -- nothing being behind it. Assumes nothing.
 use Prim.Native.Nat.{ℕ, _≤_, _<_}
-use mathlib.Core.Path.{_≡_, refl, sym, ap, _∙_}
+use mathlib.Core.Path.{_≡_, sym, ap, _∙_}
 use mathlib.Core.Bool.{true}
 use mathlib.Core.List.{List, [], _++_, append-nil}
-use lib.ListN.{length, getD, take, drop, take-append-drop}
+use lib.ListN.{length, take, drop, take-append-drop}
 use lib.Seq.{length-take-le}
 use Rattle.aadl.specs.declared.Token.{Token}
 use Rattle.aadl.specs.Kinds.{STRING-LIT, #_}

@@ -16,7 +16,7 @@ use Rattle.aadl.specs.Kinds.{#_, PROPERTY-SECTION}
 use Rattle.aadl.specs.Symbols.{symbols}
 use Rattle.aadl.specs.Answers.{left-in, token-words, event-words}
 use Rattle.aadl.specs.Calls.{answer-of, Did, section-call, tokens-call, Settled}
-use Rattle.aadl.specs.Records.{record-room, records, text-records, record-words, with-records, tree-answer, recording, tree-call, answered-records, Recorded}
+use Rattle.aadl.specs.Records.{record-room, records, text-records, record-words, with-records, tree-answer, recording, tree-call, answered-records}
 use Rattle.aadl.specs.Contracts.{Section-called, Tree-called}
 use Rattle.aadl.proofs.Demand3.{demand-3}
 use Rattle.aadl.proofs.Settled.{Sound, settled, whole}

@@ -13,14 +13,12 @@ use lib.Dec.{eqb, ltb}
 use borrow.Author.Tests.{eqb-true, eq-eqb, ltb-true, ltb-false}
 use Rattle.predictive.proofs.Tests.{never, and-l, and-r, and-both}
 use Rattle.aadl.specs.declared.Token.{Token}
-use Rattle.aadl.specs.declared.Answer.{Answer}
-use Rattle.aadl.specs.Limits.{Limits, Allowed}
 use Rattle.aadl.specs.Kinds.{IDENT, #_}
 use Rattle.aadl.specs.Words.{words, table, row, lower, kind-of-word}
 use Rattle.aadl.specs.Bytes.{peek, run, is-ident-start, is-ident-continue}
 use Rattle.aadl.specs.Tokens.{token, word-of, token-of, tokens, kind-in, from-token, token-text}
 use Rattle.aadl.specs.WordKinds.{Mixed, Own-kind, is-word, Words-told}
-use Rattle.aadl.specs.Answers.{text-checks, all-tokens, tokens-answer, left-in, token-words}
+use Rattle.aadl.specs.Answers.{token-words}
 use Rattle.aadl.proofs.Bools.{below-at}
 use Rattle.aadl.proofs.RunLaws.{run-taken, run-none}
 use Rattle.aadl.proofs.SameRuns.{run-same}

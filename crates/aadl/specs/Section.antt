@@ -31,7 +31,8 @@ names = # IDENT ∷ keywords
 abbrev pub token : Kind → Part Rule
 token k = tok (expected (# k)) (# k ∷ [])
 
--- a fixed token that is taken only where it stands: where it is missing, message 0, which never comes (proofs `NeverMissed`)
+-- a fixed token that is taken only where it stands: where it is missing, message 0, which never comes (proofs
+-- `NeverMissed`)
 abbrev pub begun : Kind → Part Rule
 begun k = tok unmet (# k ∷ [])
 

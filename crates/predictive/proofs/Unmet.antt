@@ -1,8 +1,8 @@
--- What no reading meets. A part is sure of some faults if it cannot give them: its message is none of them, or one of
--- the heads that are known to stand where it is begun is a token that it takes. The test of a part, over a table of the
--- heads that each rule asks to stand, is closed and so computed. No reading of a grammar whose rules pass it has such a
--- fault: one induction over the parts, which also counts the tokens taken. A loop never meets its bound, since each turn
--- takes a token. Assumes nothing.
+-- What no reading meets. A part is sure of some faults if it cannot give them: its message is none of them, or only
+-- tokens that it takes can stand where it is begun. The test of a part, over a table of the heads of which each rule
+-- asks that one stands, is closed and so computed. No reading of a grammar whose rules pass it has such a fault: one
+-- induction over the parts, which also counts the tokens taken. A loop never meets its bound, since each turn takes a
+-- token. Assumes nothing.
 use Prim.Native.Nat.{ℕ, zero, suc, _+_, _≤_, _<_}
 use native.Mathlib.Omega.{arith}
 use mathlib.Core.Path.{_≡_, refl, sym, ap, _∙_}

@@ -80,8 +80,8 @@ only false hs = []
 abbrev pub expected : ℕ → ℕ
 expected k = 256 + k
 
--- the message of what no reading meets (proofs `Unmet`): a token is missing that is taken only where it stands, or a loop
--- goes on past its bound
+-- the message of what no reading meets (proofs `Unmet`): a token is missing that is taken only where it stands, or a
+-- loop goes on past its bound
 abbrev pub unmet : ℕ
 unmet = 0
 

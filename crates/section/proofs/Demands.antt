@@ -20,7 +20,7 @@ use Rattle.aadl.specs.Encoding.{words-for, first-words}
 use Rattle.aadl.specs.Reading.{reads-cleanly}
 use Rattle.aadl.specs.Answers.{answered, section-answer, left-in, token-words, event-words}
 use Rattle.aadl.specs.Calls.{section-call, Settled}
-use Rattle.aadl.specs.Demand.{answered-events, Clean-answer, solid-words, is-clean, Read-as-derived}
+use Rattle.aadl.specs.Demand.{answered-events, Clean-answer, solid-words, is-clean}
 use Rattle.aadl.specs.Contracts.{Section-called, Read-whole}
 use Rattle.aadl.proofs.SymbolLaws.{symbols-show-kinds}
 use Rattle.aadl.proofs.EventPairs.{length-first-words}

@@ -62,9 +62,6 @@ module _ {old : List ℕ} {i : ℕ} {w : Walk} {b : Builder} {words : List ℕ} 
   pub innermost-before : b .innermost < b .records
   innermost-before = omega (arith, x .counts, x .opens, x .sound .innermost-stands)
 
-  pub records-fit : b .records * 4 ≤ length words
-  records-fit = omega (arith, x .counts, x .fits, holds-long)
-
   -- AFTER AN EVENT -----------------------------------------------------------------------------------------------------
 
   pub holds-later : Holds old (suc i) w b words
