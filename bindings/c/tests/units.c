@@ -683,6 +683,20 @@ static int is_clean(const char *section)
     return gigboda_is_clean(&answer, tokens, events);
 }
 
+/* The exported function takes any words: an odd last event word is none, a class above an Error's counts as one, spaces are not counted. */
+static void clean_by_any_words(void)
+{
+    static const uint32_t none[1] = {0}, odd[3] = {0, 0, 50331648}, error[2] = {50331648, 0}, above[2] = {4294967295u, 0};
+    static const uint32_t space_and_name[2] = {196609, 2162689};
+
+    CHECK(gigboda_clean(0, none, 0, none, 0) == 1);
+    CHECK(gigboda_clean(0, none, 0, odd, 3) == 1);
+    CHECK(gigboda_clean(0, none, 0, error, 2) == 0);
+    CHECK(gigboda_clean(0, none, 0, above, 2) == 0);
+    CHECK(gigboda_clean(1, space_and_name, 2, none, 0) == 1);
+    CHECK(gigboda_clean(2, space_and_name, 2, none, 0) == 0);
+}
+
 static void what_is_clean(void)
 {
     struct gigboda_answer only = gigboda_read_tokens("", 0, tokens, 0);
@@ -1074,6 +1088,7 @@ static const struct {
     TEST(places_have_lines_and_columns),
     TEST(columns_count_characters),
     TEST(what_is_clean),
+    TEST(clean_by_any_words),
     TEST(trees_are_walked),
     TEST(forward_parents_are_followed),
     TEST(steps_say_where_they_are),
