@@ -1,7 +1,7 @@
 -- What a record's call answers, and the lines that are written for it. Assumes nothing.
 use Prim.Native.Nat.{ℕ, _+_, _<_}
 use mathlib.Core.Path.{_≡_}
-use mathlib.Core.Bool.{Bool, true, cond}
+use mathlib.Core.Bool.{Bool, true, false, cond}
 use mathlib.Core.List.{List, []}
 use lib.ListN.{length, replicate}
 use lib.Seq.{sets}
@@ -9,6 +9,7 @@ use lib.Dec.{eqb}
 use Rattle.aadl.specs.Slices.{Slice, before, after}
 use Rattle.aadl.specs.Limits.{base}
 use Rattle.aadl.specs.Answers.{tokens-answer, section-answer, token-words, event-words, left-in}
+use Rattle.aadl.specs.Contracts.{Makes-tokens-call, Makes-section-call}
 use Rattle.aadl.specs.Records.{record-words, tree-answer}
 use Rattle.aadl.specs.ValueCall.{value-answer}
 use Rattle.aadl.specs.declared.Answer.{Answer}
@@ -19,6 +20,12 @@ use Rattle.replay.specs.declared.Head.{Head}
 use Rattle.replay.specs.declared.Step.{Step}
 use Rattle.replay.specs.Heads.{tree, parts, value}
 
+-- The call of a plain record was made: the tokens-only call, which leaves the event words as they are, or the section call.
+pub record Makes-call (only : Bool) (text tokens events : Slice) (a : Answer) : Type 0 where
+  pub tokens-only : only ≡ true → Makes-tokens-call base text tokens a × (after events ≡ before events)
+  pub section : only ≡ false → Makes-section-call base text tokens events a
+
+-- Its answer by how many words are lent.
 abbrev pub answer-of : (only : Bool) → (text : List ℕ) → (tokens events : ℕ) → Answer
 answer-of only text m n = cond only (tokens-answer base text m) (section-answer base text m n)
 

@@ -18,8 +18,7 @@ ghost use mathlib.Core.Bool.{false};
 ghost use lib.ListN.{length, replicate};
 ghost use Rattle.aadl.specs.Words.{bytes};
 ghost use Rattle.writing.specs.Written.{Writes};
-ghost use Rattle.aadl.specs.Answers.{token-words, left-in};
-ghost use Rattle.replay.specs.Calls.{answer-of, events-left, called, tree-called, parts-called, value-called, made, Stands-whole};
+ghost use Rattle.replay.specs.Calls.{Makes-call, called, tree-called, parts-called, value-called, made, Stands-whole};
 ghost use Rattle.replay.specs.Heads.{number-at, head-from, extended, known, record-head, lent-records};
 
 // How many bytes and token words the longest record has; how many event words, two for an event; and how many record words, four for a record.
@@ -82,9 +81,7 @@ fn number_at(b: &[u8; 16], i: usize) -> u32
 }
 
 fn answer(src: &[u8], tokens: &mut [u32], events: &mut [u32], only: bool) -> Answer
-    ensures answered { λ r. ⌜ r ≡ answer-of only (now (src .entry)) (length (now (tokens .entry))) (length (now (events .entry))) ⌝ }
-    ensures token_words { λ r. ⌜ now (tokens .exit) ≡ left-in r (token-words (now (src .entry))) (now (tokens .entry)) ⌝ }
-    ensures event_words { λ r. ⌜ now (events .exit) ≡ events-left only r (now (src .entry)) (now (events .entry)) ⌝ }
+    ensures { λ r. ⌜ Makes-call only src tokens events r ⌝ }
 {
     if only {
         return lexer::tokenize(src, tokens);
