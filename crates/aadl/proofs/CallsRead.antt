@@ -16,7 +16,7 @@ use Rattle.aadl.specs.Answers.{all_answered, tokens_answer, section_answer, left
 use Rattle.aadl.specs.Calls.{Form, lent, number_of, Did, filled, Extension, extending, tokens_call, reading_events, section_call, AnsweredWhole, Settled}
 use Rattle.aadl.specs.EventTokens.{TokensKnown}
 use Rattle.aadl.specs.Demand.{answered_events, ReadAsDerived}
-use Rattle.aadl.specs.Contracts.{TokensCalled, SectionCalled, ReadWhole}
+use Rattle.aadl.specs.Promises.{TokensCalled, SectionCalled, ReadWhole}
 use Rattle.aadl.proofs.Settled.{Sound, settled, whole}
 use Rattle.aadl.proofs.Extending.{first's}
 use Rattle.aadl.proofs.AnswerDerived.{Answered, answered-whole, told, answer-derived}

@@ -60,6 +60,7 @@ tok-ends : (m : ℕ) → Ending (tok m (# SEMICOLON ∷ []))
 unfolding leaves shown
 tok-ends m f (x ∷ xs) ys (d_tok h e) d =
     ap (λ (g : Forest). last d (leaves g)) e ∙ ap shown (only x (# SEMICOLON) h)
+tok-ends m f [] ys h d = elim h [ ]
 
 seq-ends : (p q : Part Rule) → Ending q → Ending (seq p q)
 seq-ends p q ends h xs zs (d_seq {f = f} {g = g} a b e) d =

@@ -29,7 +29,7 @@ use Rattle.aadl.specs.Reading.{reading, events}
 use Rattle.aadl.specs.Answers.{text_checks, section_checks}
 use Rattle.aadl.specs.Calls.{tokens_call, section_call}
 use Rattle.aadl.specs.Demand.{answered_events}
-use Rattle.aadl.specs.Contracts.{SectionCalled}
+use Rattle.aadl.specs.Promises.{SectionCalled}
 use Rattle.aadl.proofs.Checks.{fails_by}
 use Rattle.aadl.proofs.CallsRead.{section-whole, events-told}
 use Rattle.aadl.proofs.Asides.{is-message}

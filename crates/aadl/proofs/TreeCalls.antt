@@ -17,7 +17,7 @@ use Rattle.aadl.specs.Symbols.{symbols}
 use Rattle.aadl.specs.Answers.{left_in, token_words, event_words}
 use Rattle.aadl.specs.Calls.{answer_of, Did, section_call, tokens_call, Settled}
 use Rattle.aadl.specs.Records.{record_room, records, text_records, record_words, with_records, tree_answer, recording, tree_call, answered_records}
-use Rattle.aadl.specs.Contracts.{SectionCalled, TreeCalled}
+use Rattle.aadl.specs.Promises.{SectionCalled, TreeCalled}
 use Rattle.aadl.proofs.Demand3.{demand_3}
 use Rattle.aadl.proofs.Settled.{Sound, settled, whole}
 use Rattle.aadl.proofs.Extending.{by-own}

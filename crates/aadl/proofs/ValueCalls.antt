@@ -21,7 +21,7 @@ use Rattle.aadl.specs.Answers.{checked, left_in, token_words, event_words}
 use Rattle.aadl.specs.Calls.{lent, answer_of, left, Did, section_call, tokens_call, Each, Fails, Settled}
 use Rattle.aadl.specs.Values.{Constant, Outcome, exact, beyond, value, Association}
 use Rattle.aadl.specs.ValueCall.{associations_in, nth_association, outcome_of, is_none, is_beyond, exact_value, text_associations, value_checks, with_value, value_refused, value_answer, valuing, value_call, Valued, valued_by}
-use Rattle.aadl.specs.Contracts.{SectionCalled, ValueCalled}
+use Rattle.aadl.specs.Promises.{SectionCalled, ValueCalled}
 use Rattle.aadl.proofs.Demand3.{demand_3}
 use Rattle.aadl.proofs.Settled.{Sound, settled, whole}
 use Rattle.aadl.proofs.Extending.{by-own, own-fail}

@@ -18,5 +18,5 @@ pub mod Records
 pub mod EventTokens
 pub mod Values
 pub mod ValueCall
-pub mod Contracts
+pub mod Promises
 pub mod Listing

@@ -1,6 +1,8 @@
 // What document 01 says, as definitions: specs/ holds them, proofs/ holds what follows from them. The structs here are what the
 // definitions give and the functions of later crates return.
 
+#![tactic(auto)]
+
 // A token at the front of some bytes: its kind, its length in bytes, and whether it is closed, which all but some strings are.
 #[derive(Drop)]
 pub struct Token {

@@ -1,5 +1,7 @@
 // Words counted and found by where they lie among all words: many at once, since nothing but the words' order is asked.
 
+#![tactic(auto)]
+
 ghost use Rattle.std.specs.Prelude.{◌≡◌, ◌+◌, ◌≤◌, ◌<◌, cond, length, drop};
 ghost use Rattle.aadl.specs.Tokens.{total};
 ghost use Rattle.bands.specs.Bands.{within_band, tally, nth_within};

@@ -1,11 +1,13 @@
 // The calls as C and Rust link them: on numbers and slices alone, each proved to be the library's call. bindings/ says how they are
 // called from outside. Every length is allowed, and no call asks anything of what is lent.
 
+#![tactic(auto)]
+
 ghost use Rattle.std.specs.Prelude.{◌≡◌, cond, set};
 ghost use Rattle.aadl.specs.Limits.{base};
 ghost use Rattle.aadl.specs.Tokens.{from_token};
 ghost use Rattle.aadl.specs.NumberParts.{number_parts, PartsHold};
-ghost use Rattle.aadl.specs.Contracts.{MakesTokensCall, MakesSectionCall, MakesTreeCall, MakesValueCall};
+ghost use Rattle.aadl.specs.Promises.{MakesTokensCall, MakesSectionCall, MakesTreeCall, MakesValueCall};
 ghost use Rattle.lexer.specs.Filling.{write};
 ghost use Rattle.capi.specs.Numbers.{numbers, six_in_a_row, Exported, clean_words, part_told, IsThePart, parts_told};
 

@@ -1,4 +1,7 @@
 // Names, directions and categories: the part of `grammar/mod.rs` that looks at single words.
+
+#![tactic(auto)]
+
 ghost use Rattle.std.specs.Prelude.{◌≡◌, [], ◌∷◌};
 ghost use Rattle.predictive.specs.Grammar.{tok};
 ghost use Rattle.predictive.specs.Reader.{ones};

@@ -1,6 +1,8 @@
 // Bytes: their classes by one table, runs of them, and well-formed UTF-8 sequences: what the scanners test and skip. The tables are lent by
 // the caller, who copies them once per call: reading a `const` array builds it anew.
 
+#![tactic(auto)]
+
 ghost use Rattle.std.specs.Prelude.{◌≡◌, not, [], ◌∷◌, ◌≤◌, ◌<◌, max, length, drop};
 ghost use Rattle.predictive.specs.Grammar.{has};
 ghost use Rattle.aadl.specs.Bytes.{peek as byte_at, run_end};

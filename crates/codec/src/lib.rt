@@ -1,6 +1,8 @@
 // Token and event words: how a kind, a length, a class and a last number make a word, and how they come back from it. Every other crate
 // asks here.
 
+#![tactic(auto)]
+
 ghost use Rattle.std.specs.Prelude.{◌≡◌, length, get_or, ◌+◌, ◌*◌, ◌/◌, ◌<◌};
 ghost use Rattle.predictive.specs.Forest.{message};
 ghost use Rattle.predictive.specs.Events as E;

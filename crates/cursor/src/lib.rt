@@ -1,6 +1,9 @@
 // A text and a position in it, kept together, as the Rust's Cursor has them. The text is lent to the struct, so that each function over
 // the struct is proved by hand; these are thin, and leave the reading to functions over plain texts. Past the end of a text a byte reads
 // as 0, so that no function asks anything of its caller.
+
+#![tactic(auto)]
+
 ghost use Rattle.std.specs.Prelude.{◌≡◌, ◌+◌};
 ghost use Rattle.aadl.specs.Bytes as bytes;
 ghost use Rattle.cursor.specs.Window.{window_of};

@@ -1,6 +1,8 @@
 // Constants: what the first value of an association comes to, in one pass over its tokens. Signs stand before an operand, operands with `*`
 // between them make a product, products with `+` or `-` between them a sum; so no memory but what each has come to is needed.
 
+#![tactic(auto)]
+
 ghost use Rattle.std.specs.Prelude.{◌≡◌, ℕ, ◌≤◌, ◌<◌, true, false, List, [], ◌∷◌, length, drop};
 ghost use Rattle.predictive.specs.Grammar.{has};
 ghost use Rattle.aadl.specs.Kinds.{SLASH, DOT_DOT, IDENT, #◌};

@@ -1,4 +1,7 @@
 // Expressions: `property_expression` and what it calls, a cycle in which the openers left fall.
+
+#![tactic(auto)]
+
 ghost use Rattle.std.specs.Prelude.{◌≡◌, false, [], ◌∷◌, ℕ, suc};
 ghost use Rattle.predictive.specs.Grammar.{Choice, opt, opens};
 ghost use Rattle.predictive.specs.Reader.{ones};

@@ -1,4 +1,7 @@
 // Classifiers with their bindings, a cycle in which the openers left fall, and modes: `grammar/mod.rs` and `grammar/modes.rs`.
+
+#![tactic(auto)]
+
 ghost use Rattle.std.specs.Prelude.{suc};
 ghost use Rattle.predictive.specs.Grammar.{any};
 ghost use Rattle.predictive.specs.Notation.{maybe};

@@ -1,5 +1,8 @@
 // Whole numbers by sign and size: sums and products in the signed 64-bit range. Each operation is tested before it is made, so that none
 // wraps; a result that leaves the range is told.
+
+#![tactic(auto)]
+
 ghost use Rattle.std.specs.Prelude.{◌*◌, ◌≤◌, ◌≡◌, true, false, leb, neg_ℤ, ◌+ℤ◌, ◌*ℤ◌};
 ghost use Rattle.aadl.specs.Values.{in_range};
 ghost use Rattle.int64.specs.Integers.{most, by_sign, integer, ResultOf};

@@ -1,5 +1,8 @@
 // Which kind a word has, in any mix of ASCII case. The word is not copied: its letters are compared where they stand, one by one, with those
 // of one word of the table, the only one that it can be by its hash.
+
+#![tactic(auto)]
+
 mod tables; // tables.rt: the table of words by columns
 
 ghost use Rattle.std.specs.Prelude.{◌≤◌, ◌<◌, ◌≡◌, length};

@@ -1,12 +1,14 @@
 // The tokens-only call: UTF-8, tokens, refusals 1 to 3 and 8; and by its number the text of a token, and the parts of one that is a number.
 
+#![tactic(auto)]
+
 ghost use Rattle.std.specs.Prelude.{◌≡◌, ◌+◌, ◌≤◌, min, length, take, replicate};
 ghost use Rattle.aadl.specs.Limits.{base, Allowed};
 ghost use Rattle.aadl.specs.Utf8.{ill_formed};
 ghost use Rattle.aadl.specs.Tokens.{total, from_token, token_text};
 ghost use Rattle.aadl.specs.NumberParts.{number_parts, bit, part_numbers, PartsHold};
 ghost use Rattle.aadl.specs.Answers.{refused, token_words};
-ghost use Rattle.aadl.specs.Contracts.{MakesTokensCall};
+ghost use Rattle.aadl.specs.Promises.{MakesTokensCall};
 ghost use Rattle.lexer.specs.Filling.{write, filled_of};
 
 use aadl::{Answer, Limits, Number, Span, Token};

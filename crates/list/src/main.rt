@@ -1,5 +1,8 @@
 // Prints the listing of a text: reads it, asks `listing` for pieces and writes them out. All between reading and writing is proved there; no contract says
 // what is read or written. A failed read or write is told on standard error, and nothing more is written.
+
+#![tactic(auto)]
+
 use libc::{STDERR_FILENO, STDIN_FILENO};
 use listing::{EVENTS, Listing, READ, TOKENS, begin, next_piece};
 use streams::{read_full, write_out};

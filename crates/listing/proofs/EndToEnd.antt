@@ -17,7 +17,7 @@ use Rattle.aadl.specs.Answers.{section_checks, all_answered, refused, section_an
 use Rattle.aadl.specs.Encoding.{room, words_for, first_words}
 use Rattle.aadl.specs.Listing.{lent_tokens, lent_events, listing_answer, listing}
 use Rattle.aadl.specs.Calls.{Each, tokens_call, section_call, AnsweredWhole, RefusedFirst}
-use Rattle.aadl.specs.Contracts.{SectionCalled}
+use Rattle.aadl.specs.Promises.{SectionCalled}
 use Rattle.aadl.proofs.AnswerLaws.{too_long}
 use Rattle.aadl.proofs.CallsRead.{section-answered}
 use Rattle.parser.specs.Input.{Input, input}

@@ -5,7 +5,7 @@ use Rattle.aadl.specs.declared.Answer.{Answer}
 use Rattle.aadl.specs.declared.Limits.{Limits}
 use Rattle.aadl.specs.Encoding.{words_for, first_words}
 use Rattle.aadl.specs.Listing.{listing_answer, listing}
-use Rattle.aadl.specs.Contracts.{SectionCalled}
+use Rattle.aadl.specs.Promises.{SectionCalled}
 use Rattle.aadl.specs.Slices.{Slice}
 use Rattle.aadl.specs.Slices as Slices
 use Rattle.parser.specs.Input.{input}

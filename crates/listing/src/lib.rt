@@ -1,5 +1,8 @@
 // The listing of a text, whole: `begin` makes the section call, `next_piece` gives the next bytes, and the pieces end to end are 01's listing
 // (proofs/EndToEnd). A program reads, asks for pieces and writes them; all that lies between is here.
+
+#![tactic(auto)]
+
 ghost use Rattle.std.specs.Prelude.{◌-◌, ◌≤◌, ◌≡◌, length};
 ghost use Rattle.aadl.specs.Limits.{base, Allowed};
 ghost use Rattle.parser.specs.Input.{input};

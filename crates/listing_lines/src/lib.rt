@@ -1,4 +1,7 @@
 // The lines of the listing, written into lent bytes: an event's, the header, a refusal's.
+
+#![tactic(auto)]
+
 ghost use Rattle.std.specs.Prelude.{◌≤◌, ◌≡◌, [], ◌∷◌, ◌++◌, length};
 ghost use Rattle.aadl.specs.Encoding.{fields, event_in};
 ghost use Rattle.aadl.specs.Listing.{decimal, letter};

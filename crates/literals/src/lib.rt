@@ -1,6 +1,8 @@
 // What a literal of a whole number stands for: its digits in its base. No number here passes 2 to the 63rd, which is above every literal that
 // is in the range.
 
+#![tactic(auto)]
+
 ghost use Rattle.std.specs.Prelude.{◌≡◌, true, ◌+◌, ◌*◌, ◌/◌, ◌≤◌, ◌<◌, min, length, drop};
 ghost use Rattle.aadl.specs.Bytes.{peek, is_digit};
 ghost use Rattle.aadl.specs.NumberParts.{PartsHold};

@@ -1,4 +1,7 @@
 // Paths, and values that hold no expression: `containment_path` and the plain arms of `property_expression_primary`.
+
+#![tactic(auto)]
+
 ghost use Rattle.predictive.specs.Grammar.{any, seq, fail, many, opt, unless};
 ghost use Rattle.predictive.specs.Notation.{maybe};
 ghost use Rattle.predictive.specs.Reader.{ones};

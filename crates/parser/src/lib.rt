@@ -1,6 +1,8 @@
 // Events, markers and the parser's counters: what every reader is written in. A text and its token words are lent, event words are
 // lent to be written, and the parser's counters go by value. Once the parser stopped, every function here leaves all as it is.
 
+#![tactic(auto)]
+
 ghost use Rattle.std.specs.Prelude.{◌≡◌, ℕ, ◌≤◌, ◌<◌, List, [], ◌∷◌, length, drop, ltb};
 ghost use Rattle.predictive.specs.Forest.{message};
 ghost use Rattle.predictive.specs.Grammar.{Choice, one, two, tok, opt, any};

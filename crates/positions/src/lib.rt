@@ -1,4 +1,7 @@
 // The line and the column of a place in a text, step by step.
+
+#![tactic(auto)]
+
 ghost use Rattle.std.specs.Prelude.{◌+◌, ◌≡◌, [], ◌∷◌};
 ghost use Rattle.aadl.specs.Utf8.{is_continuation};
 ghost use Rattle.aadl.specs.Listing.{line_after};

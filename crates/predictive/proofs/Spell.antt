@@ -216,6 +216,18 @@ mutual
       let rest = does_rest (events b 0) [] (plain b) [] (does_events b p.2) does_nothing in
       rw (append_assoc first (start k (behind_start (wrap k a b nil)) ∷ events b 0) (finish ∷ []), length_finish (events b 0))
       (leads-start first (plain a) (leads-events a p.0 p.1) (events b 0 ++ (finish ∷ [])) (plain b ++ (closes ∷ [])) rest k)
+  -- no other forest is whole
+  leads-events nil w p = elim w [ ]
+  leads-events (leaf kind _) w p = elim w [ ]
+  leads-events (err _ _) w p = elim w [ ]
+  leads-events (node k i (leaf kind _)) w p = elim w [ ]
+  leads-events (node k i (err _ _)) w p = elim w [ ]
+  leads-events (node k i (node kind inside _)) w p = elim w [ ]
+  leads-events (node k i (wrap kind a b _)) w p = elim w [ ]
+  leads-events (wrap k a b (leaf kind _)) w p = elim w [ ]
+  leads-events (wrap k a b (err _ _)) w p = elim w [ ]
+  leads-events (wrap k a b (node kind inside _)) w p = elim w [ ]
+  leads-events (wrap k a b (wrap kind _ _ _)) w p = elim w [ ]
 
 pub steps-events : (f : Forest) → Proper f → steps (λ n. false) (events f 0) ≡ plain f
 unfolding Does steps

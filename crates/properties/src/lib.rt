@@ -1,4 +1,7 @@
 // Associations and the section: the rest of `grammar/properties.rs`.
+
+#![tactic(auto)]
+
 ghost use Rattle.predictive.specs.Grammar.{seq};
 ghost use Rattle.predictive.specs.Notation.{maybe};
 ghost use Rattle.aadl.specs.Kinds as K;

@@ -4,7 +4,7 @@ use Rattle.std.proofs.lemmas.List.Edits.{sets}
 use Rattle.aadl.specs.Slices.{Slice, before, after}
 use Rattle.aadl.specs.Limits.{base}
 use Rattle.aadl.specs.Answers.{tokens_answer, section_answer, token_words, event_words, left_in}
-use Rattle.aadl.specs.Contracts.{MakesTokensCall, MakesSectionCall}
+use Rattle.aadl.specs.Promises.{MakesTokensCall, MakesSectionCall}
 use Rattle.aadl.specs.Records.{record_words, tree_answer}
 use Rattle.aadl.specs.ValueCall.{value_answer}
 use Rattle.aadl.specs.declared.Answer.{Answer}

@@ -2,6 +2,9 @@
 // words, for tools/compare to hold against the Rust. tools/README.md says what a record is and what is written for one. Beside
 // src/ stand a sample of records, `stdin`, and what the oracle gives for them, `stdout`; tools/compare/sample writes both. A failed read or write is told on
 // standard error, and nothing more is written. No contract says what is read or written.
+
+#![tactic(auto)]
+
 ghost use Rattle.std.specs.Prelude.{◌≤◌, ◌<◌, ◌≡◌, false, length, replicate};
 ghost use Rattle.aadl.specs.Words.{bytes};
 ghost use Rattle.writing.specs.Written.{Writes};

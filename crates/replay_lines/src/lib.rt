@@ -1,5 +1,8 @@
 // What `replay` writes for a record: the lines of a call's answer and of the words that it leaves, into lent bytes. tools/README.md says what the lines are.
 // What has no room is left out (`writing`): a caller sees to room.
+
+#![tactic(auto)]
+
 ghost use Rattle.std.specs.Prelude.{◌≡◌, [], ◌∷◌, length, take, replicate};
 ghost use Rattle.aadl.specs.Words.{bytes};
 ghost use Rattle.aadl.specs.Listing.{decimal};

@@ -2,6 +2,8 @@
 // there, as aadl's `token_of` has it, the one for numbers all of the number. `scan_token` goes by the first byte to the scanner of its sort,
 // which asks for such a byte and does not look at it again. The tables are lent, as in `classes`.
 
+#![tactic(auto)]
+
 ghost use Rattle.std.specs.Prelude.{◌≡◌, false, ◌&&◌, [], ◌∷◌, ◌+◌, ◌-◌, ◌≤◌, ◌<◌, length, drop, eqb};
 ghost use Rattle.aadl.specs.Kinds.{#◌, WHITESPACE as WHITE, IDENT as NAME, INTEGER_LIT, STRING_LIT};
 ghost use Rattle.aadl.specs.Bytes.{run_end, is_ident_continue, is_grouped};

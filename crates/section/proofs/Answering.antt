@@ -15,7 +15,7 @@ use Rattle.aadl.specs.Tokens.{tokens, token_word}
 use Rattle.aadl.specs.Encoding.{room}
 use Rattle.aadl.specs.Answers.{section_checks, answered, all_answered, refused, checked, token_words}
 use Rattle.aadl.specs.Calls.{plain, lent, Call, filled, tokens_call, reading_events, section_call}
-use Rattle.aadl.specs.Contracts.{TokensCalled, SectionCalled}
+use Rattle.aadl.specs.Promises.{TokensCalled, SectionCalled}
 use Rattle.aadl.proofs.Settled.{number_small}
 use Rattle.aadl.proofs.Extending.{did-same, on-refused, own-refuses, none-refuses}
 use Rattle.aadl.proofs.CallsRead.{exit-at, tokens-sound, tokens-settled, tokens-whole, tokens-read, section-promised}

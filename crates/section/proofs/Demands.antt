@@ -21,7 +21,7 @@ use Rattle.aadl.specs.Reading.{reads_cleanly}
 use Rattle.aadl.specs.Answers.{answered, section_answer, left_in, token_words, event_words}
 use Rattle.aadl.specs.Calls.{section_call, Settled}
 use Rattle.aadl.specs.Demand.{answered_events, CleanAnswer, solid_words, is_clean}
-use Rattle.aadl.specs.Contracts.{SectionCalled, ReadWhole}
+use Rattle.aadl.specs.Promises.{SectionCalled, ReadWhole}
 use Rattle.aadl.proofs.SymbolLaws.{symbols-show_kinds}
 use Rattle.aadl.proofs.EventPairs.{length_first_words}
 use Rattle.aadl.proofs.CallsRead.{section-answered, tokens-left, events_left, section-settled, section-read}

@@ -14,7 +14,7 @@ use Rattle.aadl.specs.Symbols.{symbols, raw_number}
 use Rattle.aadl.specs.Encoding.{words_for}
 use Rattle.aadl.specs.Reading.{events}
 use Rattle.aadl.specs.Answers.{token_words, event_words}
-use Rattle.aadl.specs.Contracts.{SectionCalled}
+use Rattle.aadl.specs.Promises.{SectionCalled}
 use Rattle.aadl.proofs.EventPairs.{length_words_of}
 pub use Rattle.aadl.proofs.CallsRead.{all-passed, all-counted, events-told}
 use Rattle.aadl.proofs.CallsRead.{tokens-filled, events-filled}

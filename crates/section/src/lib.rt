@@ -1,12 +1,14 @@
 // The section call: tokens, section and the seven refusals in one answer.
 
+#![tactic(auto)]
+
 ghost use Rattle.std.specs.Prelude.{◌≡◌, cond, ◌<◌, length, take};
 ghost use Rattle.predictive.specs.Events.{erring, any_fault};
 ghost use Rattle.aadl.specs.Limits.{base, Allowed};
 ghost use Rattle.aadl.specs.Encoding.{events_in};
 ghost use Rattle.aadl.specs.Answers.{token_words};
 ghost use Rattle.aadl.specs.Demand.{solid_words, is_clean};
-ghost use Rattle.aadl.specs.Contracts.{MakesSectionCall};
+ghost use Rattle.aadl.specs.Promises.{MakesSectionCall};
 ghost use Rattle.section.specs.Replies.{Sectioned};
 
 use aadl::{Answer, Limits};

@@ -1,5 +1,8 @@
 // Reading to the end and writing out, with failures told: a program that reads and writes through this crate never takes a failed read for the input's
 // end, nor a failed write for one that was made. No contract says what is read or written; C's `read` and `write` are assumed.
+
+#![tactic(auto)]
+
 ghost use Rattle.std.specs.Prelude.{◌≤◌, ◌≡◌, length};
 ghost use Rattle.streams.specs.Outcomes.{outcome_of, behind};
 

@@ -1,4 +1,7 @@
 // Kinds of tokens and nodes by name, as `SyntaxKind` has them: those that the code names. And which kinds are of a class.
+
+#![tactic(auto)]
+
 ghost use Rattle.std.specs.Prelude.{◌≡◌};
 ghost use Rattle.predictive.specs.Grammar.{has};
 ghost use Rattle.aadl.specs.Symbols.{is_trivia};

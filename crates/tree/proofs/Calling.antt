@@ -21,7 +21,7 @@ use Rattle.aadl.specs.Reading.{events}
 use Rattle.aadl.specs.Answers.{event_words}
 use Rattle.aadl.specs.Calls.{tokens_call, section_call}
 use Rattle.aadl.specs.Records.{Record, record_room, text_records, with_records, tree_refused, recording, tree_call}
-use Rattle.aadl.specs.Contracts.{SectionCalled, TreeCalled}
+use Rattle.aadl.specs.Promises.{SectionCalled, TreeCalled}
 use Rattle.aadl.proofs.EventPairs.{length_first_words, first_words-of}
 use Rattle.aadl.proofs.Root.{rooted, rooted-records}
 use Rattle.aadl.proofs.Extending.{did-same, on-refused, own-refuses, none-refuses}

@@ -18,7 +18,7 @@ use Rattle.aadl.specs.Symbols.{kinds}
 use Rattle.aadl.specs.Calls.{Settled}
 use Rattle.aadl.specs.Demand.{answered_events}
 use Rattle.aadl.specs.Records.{Record, records_in, text_records, tree_call, answered_records}
-use Rattle.aadl.specs.Contracts.{TreeCalled, ReadWhole}
+use Rattle.aadl.specs.Promises.{TreeCalled, ReadWhole}
 use Rattle.aadl.proofs.CallsRead.{section-read, all-counted, events-told}
 use Rattle.aadl.proofs.TreeCalls.{tree-settled, tree-section's, records-told}
 use Rattle.aadl.proofs.RecordsUpwards.{Upwards, record_at, insides, text-upwards, text-run}

@@ -1,5 +1,7 @@
 // The tree call: what the section call does, and a record for each node of the tree that the events spell.
 
+#![tactic(auto)]
+
 ghost use Rattle.std.specs.Prelude.{◌≡◌, List, [], ◌∷◌, ℕ, suc, ◌+◌, ◌*◌, ◌≤◌, ◌<◌, length, drop, replicate};
 ghost use Rattle.std.proofs.lemmas.List.Edits.{sets};
 ghost use Rattle.aadl.specs.Limits.{base, Allowed, most_events};
@@ -7,7 +9,7 @@ ghost use Rattle.aadl.specs.Symbols.{start_of};
 ghost use Rattle.aadl.specs.Encoding.{first_words, told_by};
 ghost use Rattle.aadl.specs.Answers.{token_words};
 ghost use Rattle.aadl.specs.Records.{of_node, words_of_records, with_records};
-ghost use Rattle.aadl.specs.Contracts.{MakesTreeCall};
+ghost use Rattle.aadl.specs.Promises.{MakesTreeCall};
 ghost use Rattle.tree.specs.Walk.{links, opened, Walk, begun, closed, turn};
 ghost use Rattle.tree.specs.Builders.{CanOpen, chain_opened, Holds, StepsBy, Built};
 

@@ -16,7 +16,7 @@ use Rattle.aadl.specs.Encoding.{words_for}
 use Rattle.aadl.specs.Calls.{tokens_call, section_call}
 use Rattle.aadl.specs.ValueCall.{with_value, value_refused, valuing, value_call}
 use Rattle.aadl.specs.Demand.{is_clean}
-use Rattle.aadl.specs.Contracts.{SectionCalled, ValueCalled}
+use Rattle.aadl.specs.Promises.{SectionCalled, ValueCalled}
 use Rattle.aadl.proofs.Extending.{did-same, on-refused, own-refuses, none-refuses}
 use Rattle.aadl.proofs.CallsRead.{section-sound}
 use Rattle.aadl.proofs.ValueCalls.{value-promised}

@@ -9,7 +9,7 @@ use Rattle.aadl.specs.declared.Limits.{Limits}
 use Rattle.aadl.specs.Limits.{Allowed}
 use Rattle.aadl.specs.Calls.{Settled}
 use Rattle.aadl.specs.ValueCall.{value_call}
-use Rattle.aadl.specs.Contracts.{ValueCalled, ReadWhole}
+use Rattle.aadl.specs.Promises.{ValueCalled, ReadWhole}
 use Rattle.aadl.proofs.CallsRead.{section-read}
 use Rattle.aadl.proofs.ValueCalls.{value-settled, value-section's}
 

@@ -2,11 +2,13 @@
 // second words of events too, which are below all that is looked for; the second word of the Start is the association's first token.
 // Only the association's own tokens are gone over one by one.
 
+#![tactic(auto)]
+
 ghost use Rattle.std.specs.Prelude.{◌≡◌, ℕ, ◌≤◌, ◌<◌, length};
 ghost use Rattle.aadl.specs.Limits.{base, Allowed};
 ghost use Rattle.aadl.specs.Symbols.{raw_number};
 ghost use Rattle.aadl.specs.Answers.{token_words};
-ghost use Rattle.aadl.specs.Contracts.{MakesValueCall};
+ghost use Rattle.aadl.specs.Promises.{MakesValueCall};
 ghost use Rattle.section.specs.Standing.{Passed};
 ghost use Rattle.value.specs.Words as W;
 ghost use Rattle.value.specs.Verdicts.{WasRead, Judged};

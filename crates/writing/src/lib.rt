@@ -1,5 +1,8 @@
 // Text and numbers in decimal, written into lent bytes from a place on: the one piece by which programs make what they print. What has no room is left
 // out, so that no caller owes anything; one that sees to room finds all that it put.
+
+#![tactic(auto)]
+
 ghost use Rattle.std.specs.Prelude.{◌≤◌, min, ◌≡◌, [], ◌∷◌, length, drop};
 ghost use Rattle.aadl.specs.Listing.{decimal};
 ghost use Rattle.writing.specs.Written.{Writes};

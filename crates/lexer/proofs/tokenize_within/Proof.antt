@@ -12,7 +12,7 @@ use Rattle.aadl.specs.Limits.{Allowed}
 use Rattle.aadl.specs.Tokens.{tokens}
 use Rattle.aadl.specs.Answers.{refused, answered, all_tokens, tokens_answer, token_words, left_in}
 use Rattle.aadl.specs.Calls.{tokens_call}
-use Rattle.aadl.specs.Contracts.{TokensCalled}
+use Rattle.aadl.specs.Promises.{TokensCalled}
 use Rattle.aadl.proofs.AnswerLaws.{too_long, not_utf8, no_word_left, not_closed, text-passes, tokens_answer-is, left-by_refusal, left-answered}
 use Rattle.aadl.proofs.CallsRead.{tokens-promised}
 use Rattle.aadl.proofs.Unclosed.{LastTells}

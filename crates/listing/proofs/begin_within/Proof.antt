@@ -7,7 +7,7 @@ use Prim.Native.Nat.{ℕ}
 use lib.ListN.{length, take}
 use lib.Seq.{length-take-le}
 use Rattle.aadl.specs.Answers.{section_answer}
-use Rattle.aadl.specs.Contracts.{SectionCalled}
+use Rattle.aadl.specs.Promises.{SectionCalled}
 use Rattle.aadl.specs.Listing.{lent_tokens, lent_events, listing}
 use Rattle.writing.proofs.LeastLaws.{take_least}
 use Rattle.parser.specs.Input.{input}

@@ -12,7 +12,7 @@ use borrow.Author.Rules.{rules}
 use Rattle.aadl.specs.declared.Answer.{Answer}
 use Rattle.aadl.specs.Encoding.{words_for}
 use Rattle.aadl.specs.ValueCall.{with_value}
-use Rattle.aadl.specs.Contracts.{ValueCalled}
+use Rattle.aadl.specs.Promises.{ValueCalled}
 use Rattle.section.proofs.Unrefused.{all-passed, all-counted, tokens-fit, events-fit}
 use Rattle.value.specs.Verdicts.{WasRead}
 use Rattle.value.proofs.Calling.{called-refused, was_read, called-judged, called-valued}
