@@ -4,7 +4,7 @@
 #![tactic(auto)]
 
 // A token at the front of some bytes: its kind, its length in bytes, and whether it is closed, which all but some strings are.
-#[derive(Drop)]
+#[derive(Clone, Copy)]
 pub struct Token {
     pub kind: u32,
     pub len: usize,
@@ -13,14 +13,14 @@ pub struct Token {
 
 // What of some bytes belongs to a string that begins with them or has begun before them: how many bytes, up to the quote that closes it and with
 // that quote, or all of them where none closes it; and whether it was closed.
-#[derive(Drop)]
+#[derive(Clone, Copy)]
 pub struct Quoted {
     pub len: usize,
     pub closed: bool,
 }
 
 // A part of something, by places: where it begins, and the first place after it.
-#[derive(Drop)]
+#[derive(Clone, Copy)]
 pub struct Span {
     pub begin: usize,
     pub end: usize,
@@ -28,7 +28,7 @@ pub struct Span {
 
 // A number at the front of some bytes: its kind, its length in bytes, where the base's digits and the inner digits stand, whether a closing `#` was
 // there, and whether an exponent was. Places count from the number's start.
-#[derive(Drop)]
+#[derive(Clone, Copy)]
 pub struct Number {
     pub kind: u32,
     pub len: usize,
@@ -39,14 +39,14 @@ pub struct Number {
 }
 
 // The limits of a call: most bytes of a text, and most openers that stand open at once.
-#[derive(Drop)]
+#[derive(Clone, Copy)]
 pub struct Limits {
     pub bytes: usize,
     pub openers: usize,
 }
 
 // What a call answers: the refusal's number and place (0 and 0 for none), the tokens, the non-trivia tokens taken, the events.
-#[derive(Drop)]
+#[derive(Clone, Copy)]
 pub struct Answer {
     pub number: u32,
     pub place: usize,
@@ -56,14 +56,14 @@ pub struct Answer {
 }
 
 // What the tree call answers: what the section call does, and the number of records.
-#[derive(Drop)]
+#[derive(Clone, Copy)]
 pub struct TreeAnswer {
     pub answer: Answer,
     pub records: usize,
 }
 
 // What the value call answers: what the section call does, and the value.
-#[derive(Drop)]
+#[derive(Clone, Copy)]
 pub struct ValueAnswer {
     pub answer: Answer,
     pub value: i64,

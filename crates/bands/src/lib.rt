@@ -9,7 +9,7 @@ ghost use Rattle.bands.specs.Bands.{within_band, tally, nth_within};
 use codec::length_in;
 
 // The words from one up to another.
-#[derive(Drop)]
+#[derive(Clone, Copy)]
 pub struct Band {
     pub from: u32,
     pub to: u32,

@@ -10,14 +10,14 @@ ghost use Rattle.cursor.specs.Window.{window_of};
 
 use classes::peek;
 
-#[derive(Drop)]
+#[derive(Clone, Copy)]
 pub struct Cursor<'a> {
     pub input: &'a [u8],
     pub pos: usize,
 }
 
 // What a scanner looks at: the byte at its position and the two after it.
-#[derive(Drop)]
+#[derive(Clone, Copy)]
 pub struct Window {
     pub first: u8,
     pub second: u8,

@@ -25,7 +25,7 @@ use syntax_kind::{
 };
 
 // What an operand, a product or a sum comes to: a number; or beyond the range, and then where the first literal or operator concerned starts.
-#[derive(Drop)]
+#[derive(Clone, Copy)]
 pub struct Outcome {
     pub beyond: bool,
     pub place: usize,
@@ -33,7 +33,7 @@ pub struct Outcome {
 }
 
 // Where a parser stands behind an operand, a product or a sum, and what that comes to; or that it is no constant, and then the rest is free.
-#[derive(Drop)]
+#[derive(Clone, Copy)]
 pub struct Term {
     pub p: Parser,
     pub constant: bool,
@@ -41,7 +41,7 @@ pub struct Term {
 }
 
 // A parser at an operand, behind its signs, and whether an odd number of them is minus.
-#[derive(Drop)]
+#[derive(Clone, Copy)]
 pub struct Signed {
     pub p: Parser,
     pub negative: bool,

@@ -8,14 +8,14 @@ ghost use Rattle.aadl.specs.Values.{in_range};
 ghost use Rattle.int64.specs.Integers.{most, by_sign, integer, ResultOf};
 
 // A whole number by its sign and its size. Zero may have either sign.
-#[derive(Drop)]
+#[derive(Clone, Copy)]
 pub struct Whole {
     pub negative: bool,
     pub size: u64,
 }
 
 // A result, if it is in the signed 64-bit range; else what it holds is free but for its size.
-#[derive(Drop)]
+#[derive(Clone, Copy)]
 pub struct Checked {
     pub fits: bool,
     pub whole: Whole,

@@ -14,7 +14,7 @@ use syntax_kind::{IDENT, wide, wide32};
 use tables::{KINDS, LENGTHS, LETTERS, SLOTS, STARTS};
 
 // The tables of tables.rt. Reading a `const` array builds it anew, so who looks up many words has them made once and lends them.
-#[derive(Drop)]
+#[derive(Clone, Copy)]
 pub struct WordTables {
     pub letters: [u8; 510],
     pub starts: [u16; 82],

@@ -19,7 +19,7 @@ use scan::{number_from, scan_token, word_bound};
 
 // How far tokens went into words: whether one is left without a word, where it starts or the text ends, how many words are
 // written, and the last token that has one. Only the last token of a text can be a string that is not closed.
-#[derive(Drop)]
+#[derive(Clone, Copy)]
 pub struct Filled {
     pub full: bool,
     pub at: usize,

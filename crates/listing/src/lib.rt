@@ -30,14 +30,14 @@ pub const EVENTS: usize = 16384;
 const LINE: usize = 80;
 
 // Where a listing stands among the events: the parser behind the tokens that were taken, and the spot of the next one.
-#[derive(Drop)]
+#[derive(Clone, Copy)]
 pub struct Position {
     pub parser: Parser,
     pub spot: Spot,
 }
 
 // Where a listing stands: how many bytes were read, what the section call answered, whether the first line is given, and before which event.
-#[derive(Drop)]
+#[derive(Clone, Copy)]
 pub struct Listing {
     pub bytes: usize,
     pub answer: Answer,
@@ -47,14 +47,14 @@ pub struct Listing {
 }
 
 // Bytes of a listing, as many as are counted, and where it stands behind them.
-#[derive(Drop)]
+#[derive(Clone, Copy)]
 pub struct Piece {
     pub count: usize,
     pub listing: Listing,
 }
 
 // Behind some events: how far the bytes are written, the next event, and the position before it.
-#[derive(Drop)]
+#[derive(Clone, Copy)]
 struct Reached {
     at: usize,
     event: usize,

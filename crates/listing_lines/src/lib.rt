@@ -19,7 +19,7 @@ const HEADER: [u8; 34] = *b"event,class,kind,last,line,column\n";
 const REFUSED: [u8; 8] = *b"refused,";
 
 // Class letter, kind and last of an event word.
-#[derive(Drop)]
+#[derive(Clone, Copy)]
 struct Fields {
     letter: u8,
     kind: u32,

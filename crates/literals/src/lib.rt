@@ -17,7 +17,7 @@ use int64::MOST;
 use scan::number_from;
 
 // Digits in a base: whether there are any, whether all are below the base, and then their number, at most MOST.
-#[derive(Drop)]
+#[derive(Clone, Copy)]
 pub struct Digits {
     pub any: bool,
     pub below: bool,
@@ -25,7 +25,7 @@ pub struct Digits {
 }
 
 // A literal: whether it keeps the rules of its form, and then its number, at most MOST.
-#[derive(Drop)]
+#[derive(Clone, Copy)]
 pub struct Literal {
     pub good: bool,
     pub size: u64,

@@ -34,7 +34,7 @@ pub const TOO_DEEP: usize = 6;
 
 // Where reading stands: the number of the next token's word and where that token starts in the text, the non-trivia tokens taken,
 // the events pushed, the openers left, and the number of the refusal that stopped reading, or 0.
-#[derive(Drop)]
+#[derive(Clone, Copy)]
 pub struct Parser {
     pub at: usize,
     pub byte: usize,
@@ -45,40 +45,40 @@ pub struct Parser {
 }
 
 // A token's word and its start in the text.
-#[derive(Drop)]
+#[derive(Clone, Copy)]
 pub struct Place {
     pub at: usize,
     pub byte: usize,
 }
 
 // The Start of a node that is open.
-#[derive(Drop)]
+#[derive(Clone, Copy)]
 pub struct Marker(usize);
 
 // The Start of a node that is complete.
-#[derive(Drop)]
+#[derive(Clone, Copy)]
 pub struct CompletedMarker(usize);
 
-#[derive(Drop)]
+#[derive(Clone, Copy)]
 pub struct Started {
     pub p: Parser,
     pub m: Marker,
 }
 
-#[derive(Drop)]
+#[derive(Clone, Copy)]
 pub struct Completed {
     pub p: Parser,
     pub m: CompletedMarker,
 }
 
 // An operand's node, or none where there was no operand.
-#[derive(Drop)]
+#[derive(Clone, Copy)]
 pub enum Lhs {
     Node(CompletedMarker),
     Nothing,
 }
 
-#[derive(Drop)]
+#[derive(Clone, Copy)]
 pub struct Operand {
     pub p: Parser,
     pub lhs: Lhs,

@@ -10,7 +10,7 @@ ghost use Rattle.positions.specs.Spots.{column_behind, capped, first, spot_after
 use writing::least;
 
 // A place in a text, with its line and column.
-#[derive(Drop)]
+#[derive(Clone, Copy)]
 pub struct Spot {
     pub place: usize,
     pub line: u32,

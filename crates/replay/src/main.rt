@@ -46,7 +46,7 @@ const VALUE: u32 = 6;
 
 // The numbers with which a record begins: the call, the text's bytes, the lent words, and whether the record says that no event words are lent, which are
 // 0 then. The last number is the call's own: the tree call's lent record words, or the number of a token or of an association.
-#[derive(Drop)]
+#[derive(Clone, Copy)]
 struct Head {
     call: u32,
     text: usize,
@@ -57,7 +57,7 @@ struct Head {
 }
 
 // How many bytes of the output wait to be written, and whether another record may follow.
-#[derive(Drop)]
+#[derive(Clone, Copy)]
 struct Step {
     at: usize,
     on: bool,

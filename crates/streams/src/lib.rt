@@ -7,7 +7,7 @@ ghost use Rattle.std.specs.Prelude.{◌≤◌, ◌≡◌, length};
 ghost use Rattle.streams.specs.Outcomes.{outcome_of, behind};
 
 // What a call of `read` or `write` came to.
-#[derive(Drop)]
+#[derive(Clone, Copy)]
 pub enum Outcome {
     Moved,
     Ended,
@@ -37,7 +37,7 @@ fn interrupted() -> bool {
 }
 
 // Where a loop of calls stands: how many bytes are moved, whether another call is made, and whether the last one failed.
-#[derive(Drop)]
+#[derive(Clone, Copy)]
 pub struct Progress {
     pub count: usize,
     pub on: bool,

@@ -21,7 +21,7 @@ use section::property_section_within;
 
 // A tree that is being built: how many records its nodes so far need, the innermost open node's record, the tokens taken. Where it
 // needs more records than there are, it is not built further.
-#[derive(Drop)]
+#[derive(Clone, Copy)]
 pub struct Builder {
     pub records: usize,
     pub innermost: usize,

@@ -24,7 +24,7 @@ use section::{is_clean, property_section_within};
 use syntax_kind::PROPERTY_ASSOCIATION;
 
 // What is found of an association's value: the number and the place of a refusal; or 0, and the value.
-#[derive(Drop)]
+#[derive(Clone, Copy)]
 pub struct Verdict {
     pub number: u32,
     pub place: usize,
