@@ -6,7 +6,7 @@ use Rattle.predictive.specs.Forest.{Forest}
 use Rattle.aadl.specs.declared.Answer.{Answer}
 use Rattle.aadl.specs.declared.TreeAnswer.{TreeAnswer}
 use Rattle.aadl.specs.declared.ValueAnswer.{ValueAnswer}
-use Rattle.aadl.specs.Slices.{Slice, before, after}
+use Rattle.aadl.specs.Slices.{Slice, held, MutSlice, before, after}
 use Rattle.aadl.specs.Limits.{Limits}
 use Rattle.aadl.specs.Tokens.{StringsClosed}
 use Rattle.aadl.specs.WordKinds.{WordsTold}
@@ -42,19 +42,19 @@ pub record ValueCalled (limits : Limits) (text tokens events : List ℕ) (number
 -- CONTRACTS ------------------------------------------------------------------------------------------------------------
 
 -- The same of the slices that are lent to a function: what its contract says.
-module _ (limits : Limits) (text tokens : Slice) where
+module _ (limits : Limits) (text : Slice) (tokens : MutSlice) where
   abbrev pub MakesTokensCall : Answer → Type 0
-  MakesTokensCall a = TokensCalled limits (before text) (before tokens) a (after tokens)
+  MakesTokensCall a = TokensCalled limits (held text) (before tokens) a (after tokens)
 
-  abbrev pub MakesSectionCall : (events : Slice) → Answer → Type 0
-  MakesSectionCall events a = SectionCalled limits (before text) (before tokens) (before events) a (after tokens) (after events)
+  abbrev pub MakesSectionCall : (events : MutSlice) → Answer → Type 0
+  MakesSectionCall events a = SectionCalled limits (held text) (before tokens) (before events) a (after tokens) (after events)
 
-  abbrev pub MakesTreeCall : (events records : Slice) → TreeAnswer → Type 0
+  abbrev pub MakesTreeCall : (events records : MutSlice) → TreeAnswer → Type 0
   MakesTreeCall events records a =
-      TreeCalled limits (before text) (before tokens) (before events) (before records) a (after tokens) (after events) (after records)
+      TreeCalled limits (held text) (before tokens) (before events) (before records) a (after tokens) (after events) (after records)
 
-  abbrev pub MakesValueCall : (events : Slice) → (number : ℕ) → ValueAnswer → Type 0
-  MakesValueCall events n a = ValueCalled limits (before text) (before tokens) (before events) n a (after tokens) (after events)
+  abbrev pub MakesValueCall : (events : MutSlice) → (number : ℕ) → ValueAnswer → Type 0
+  MakesValueCall events n a = ValueCalled limits (held text) (before tokens) (before events) n a (after tokens) (after events)
 
 -- WHAT FOLLOWS ---------------------------------------------------------------------------------------------------------
 

@@ -2,7 +2,7 @@
 use Rattle.std.specs.Prelude.{ℕ, min, ◌≡◌, Bool, List, [], ◌∷◌, ◌++◌, length, take, drop}
 use Rattle.aadl.specs.declared.Answer.{Answer}
 use Rattle.aadl.specs.declared.TreeAnswer.{TreeAnswer}
-use Rattle.aadl.specs.Slices.{Slice, before, after}
+use Rattle.aadl.specs.Slices.{MutSlice, before, after}
 use Rattle.aadl.specs.Tokens.{total, token_text}
 use Rattle.aadl.specs.Encoding.{first_words}
 use Rattle.aadl.specs.Answers.{answered}
@@ -20,7 +20,7 @@ six_in_a_row a = numbers a.answer ++ (a.records ∷ [])
 
 -- An exported call: the library's call gave an answer that keeps its promise, and the answer's numbers are written over the first of the lent ones, as
 -- many as are lent; the others are as they were.
-pub record Exported {A : Type 0} (numbers : A → List ℕ) (Promise : A → Type 0) (lent : Slice) : Type 0 where
+pub record Exported {A : Type 0} (numbers : A → List ℕ) (Promise : A → Type 0) (lent : MutSlice) : Type 0 where
   pub answer : A
   pub promise : Promise answer
   pub told : after lent ≡ write (numbers answer) (before lent)

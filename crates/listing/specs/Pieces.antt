@@ -6,7 +6,7 @@ use Rattle.aadl.specs.declared.Limits.{Limits}
 use Rattle.aadl.specs.Encoding.{words_for, first_words}
 use Rattle.aadl.specs.Listing.{listing_answer, listing}
 use Rattle.aadl.specs.Promises.{SectionCalled}
-use Rattle.aadl.specs.Slices.{Slice}
+use Rattle.aadl.specs.Slices.{Slice, MutSlice}
 use Rattle.aadl.specs.Slices as Slices
 use Rattle.parser.specs.Input.{input}
 use Rattle.writing.specs.Written.{Wrote}
@@ -64,16 +64,16 @@ pub record Begun (limits : Limits) (text : List ℕ) (bytes : ℕ) (tokens event
   pub lists : ListsWithin limits text bytes tokens-left events_left l
 
 -- Lines of a listing are given into lent bytes, from a place on, with so much room: from one listing's on to what the next has left.
-module _ (text tokens events out : Slice) (room from : ℕ) where
+module _ (text tokens events : Slice) (out : MutSlice) (room from : ℕ) where
   abbrev pub Gives : (l : Listing) → (end : ℕ) → (next : Listing) → Type 0
   Gives l end next =
-      let rest = left (Slices.before text) (Slices.before tokens) (Slices.before events) in
+      let rest = left (Slices.held text) (Slices.held tokens) (Slices.held events) in
       Gave room from (rest l) (Slices.before out) end (rest next) (Slices.after out)
 
 -- The same of the lines of events, from an event and its position on.
-module _ (src toks words out : Slice) where
+module _ (src toks words : Slice) (out : MutSlice) where
   abbrev lines_at : (event : ℕ) → Position → List (List ℕ)
-  lines_at n k = lines_from (input (Slices.before src) (Slices.before toks)) n (drop n (first_words (Slices.before words))) k
+  lines_at n k = lines_from (input (Slices.held src) (Slices.held toks)) n (drop n (first_words (Slices.held words))) k
 
   abbrev pub GivesLines : (from event : ℕ) → Position → (end next : ℕ) → Position → Type 0
   GivesLines from n k end m j = Gave (length (Slices.before out) - from) from (lines_at n k) (Slices.before out) end (lines_at m j) (Slices.after out)

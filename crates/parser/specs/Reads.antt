@@ -4,7 +4,7 @@ use Rattle.std.specs.Prelude.{ℕ, ◌-◌, ◌<◌, ◌≡◌, Bool, false, con
 use Rattle.predictive.specs.Grammar.{Head, at, Part}
 use Rattle.predictive.specs.Reader.{Result, miss, done, read, first}
 use Rattle.predictive.specs.Events.{Event, behind_start, events_of, left_over}
-use Rattle.aadl.specs.Slices.{Slice, before, after}
+use Rattle.aadl.specs.Slices.{Slice, held, MutSlice, before, after}
 use Rattle.aadl.specs.Section.{Rule, grammar}
 use Rattle.parser.specs.declared.Parser.{Parser}
 use Rattle.parser.specs.declared.Started.{Started}
@@ -81,20 +81,20 @@ pub record ReadOperand (inp : Input) (d : ℕ) (P : Part Rule) (p : Parser) (b :
 -- CONTRACTS ------------------------------------------------------------------------------------------------------------
 
 -- Of a reader to which a text, its token words and event words are lent, which went from the parser p to r.
-module _ (text toks events : Slice) where
+module _ (text toks : Slice) (events : MutSlice) where
   -- It reads the part P with d openers left; or with any number of them, where no opener is in it.
   abbrev pub ReadsWithin : (d : ℕ) → Part Rule → (p r : Parser) → Type 0
-  ReadsWithin d P p r = Read (input (before text) (before toks)) d P p (before events) r (after events)
+  ReadsWithin d P p r = Read (input (held text) (held toks)) d P p (before events) r (after events)
 
   abbrev pub ReadsPart : Part Rule → (p r : Parser) → Type 0
   ReadsPart P p r = (d : ℕ) → ReadsWithin d P p r
 
   -- The same of a node, and of an operand, a product or a sum.
   abbrev pub ReadsNodeWithin : (d : ℕ) → Part Rule → Parser → Completed → Type 0
-  ReadsNodeWithin d P p r = ReadNode (input (before text) (before toks)) d P p (before events) r (after events)
+  ReadsNodeWithin d P p r = ReadNode (input (held text) (held toks)) d P p (before events) r (after events)
 
   abbrev pub ReadsNode : Part Rule → Parser → Completed → Type 0
   ReadsNode P p r = (d : ℕ) → ReadsNodeWithin d P p r
 
   abbrev pub ReadsOperandWithin : (d : ℕ) → Part Rule → Parser → Operand → Type 0
-  ReadsOperandWithin d P p r = ReadOperand (input (before text) (before toks)) d P p (before events) r (after events)
+  ReadsOperandWithin d P p r = ReadOperand (input (held text) (held toks)) d P p (before events) r (after events)

@@ -1,7 +1,7 @@
 -- What a record's call answers, and the lines that are written for it. Assumes nothing.
 use Rattle.std.specs.Prelude.{ℕ, ◌+◌, ◌<◌, ◌≡◌, Bool, true, false, cond, List, [], length, replicate, eqb}
 use Rattle.std.proofs.lemmas.List.Edits.{sets}
-use Rattle.aadl.specs.Slices.{Slice, before, after}
+use Rattle.aadl.specs.Slices.{Slice, MutSlice, before, after}
 use Rattle.aadl.specs.Limits.{base}
 use Rattle.aadl.specs.Answers.{tokens_answer, section_answer, token_words, event_words, left_in}
 use Rattle.aadl.specs.Promises.{MakesTokensCall, MakesSectionCall}
@@ -16,7 +16,7 @@ use Rattle.replay.specs.declared.Step.{Step}
 use Rattle.replay.specs.Heads.{tree, parts, value}
 
 -- The call of a plain record was made: the tokens-only call, which leaves the event words as they are, or the section call.
-pub record MakesCall (only : Bool) (text tokens events : Slice) (a : Answer) : Type 0 where
+pub record MakesCall (only : Bool) (text : Slice) (tokens events : MutSlice) (a : Answer) : Type 0 where
   pub tokens_only : only ≡ true → MakesTokensCall base text tokens a × (after events ≡ before events)
   pub section : only ≡ false → MakesSectionCall base text tokens events a
 
@@ -66,5 +66,5 @@ made h text m n k =
     (called h.only text m n)))
 
 -- Where another record may follow, a record's lines stand whole in the bytes that wait, from a place on, and what stood before is kept.
-pub record StandsWhole (lines : List ℕ) (out : Slice) (at : ℕ) (r : Step) : Type 0 where
+pub record StandsWhole (lines : List ℕ) (out : MutSlice) (at : ℕ) (r : Step) : Type 0 where
   pub whole : r.on ≡ true → (r.at ≡ at + length lines) × (r.at < length (before out)) × (after out ≡ sets (before out) at lines)

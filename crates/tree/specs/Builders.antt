@@ -2,7 +2,7 @@
 use Rattle.std.specs.Prelude.{ℕ, suc, ◌+◌, ◌*◌, ◌≤◌, ◌<◌, ◌≡◌, ◌⊎◌, List, ◌++◌, map, length, get_or, drop}
 use Rattle.std.proofs.lemmas.List.Edits.{sets}
 use Rattle.predictive.specs.Events.{Event}
-use Rattle.aadl.specs.Slices.{Slice, before, after}
+use Rattle.aadl.specs.Slices.{Slice, held, MutSlice, before, after}
 use Rattle.aadl.specs.Limits.{most_events}
 use Rattle.aadl.specs.Tokens.{kind_in}
 use Rattle.aadl.specs.Encoding.{event_in, first_words, told_by}
@@ -46,9 +46,9 @@ abbrev pub Stepped : (old : List ℕ) → (i : ℕ) → (w v : Walk) → Builder
 Stepped old i w v b words = Holds old i v b words ⊎ Full old w v b words
 
 -- An event does to a builder and the lent words what the step f does to the walk.
-abbrev pub StepsBy : (f : ℕ → List Event → Walk → Walk) → (events records : Slice) → (i : ℕ) → (b r : Builder) → Type 0
+abbrev pub StepsBy : (f : ℕ → List Event → Walk → Walk) → (events : Slice) → (records : MutSlice) → (i : ℕ) → (b r : Builder) → Type 0
 StepsBy f events records i b r =
-    (old : List ℕ) (w : Walk) → Holds old i w b (before records) → Stepped old (suc i) w (f i (drop i (told_by (before events))) w) r (after records)
+    (old : List ℕ) (w : Walk) → Holds old i w b (before records) → Stepped old (suc i) w (f i (drop i (told_by (held events))) w) r (after records)
 
 -- The n Starts of the chain that begins with event i can be opened: each has room for a record, and the numbers fit words.
 abbrev pub CanOpen : (events records : List ℕ) → (i n : ℕ) → Builder → Type 0
