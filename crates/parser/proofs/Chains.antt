@@ -106,6 +106,7 @@ module _ {inp : Input} {d k : ℕ} {P Q : Part Rule} {p₀ : Parser} {b₀ : Lis
     where
       to_none : (n : ℕ) (o : Result) → Missing o → Nothing ≡ marked p.used (firstly o (λ f ys. leaned n d k Q n f ys))
       to_none n (miss f ys) missing = refl
+      to_none n (done _ _) h = elim h [ ]
 
       go : (n : ℕ) → length (rest inp p₀) < n → (p.stop ≡ 0) ⊎ (p.stop ≡ 0 → ⊥) → Became inp (reading_at inp n d (leaning k P Q) p₀) p₀ b₀ p b
       go n l (inr h) = stopped-first k Q s x.reads n l h
@@ -113,6 +114,7 @@ module _ {inp : Input} {d k : ℕ} {P Q : Part Rule} {p₀ : Parser} {b₀ : Lis
         where
           by : (o : Result) → Became inp o p₀ b₀ p b → Missing o → Became inp (firstly o (λ f ys. leaned n d k Q n f ys)) p₀ b₀ p b
           by (miss f ys) y missing = y
+          by (done _ _) y h = elim h [ ]
 
   -- The first operand begins a chain.
   pub c-holds : {m : CompletedMarker} → single P ≡ true → ReadOperand inp d P p₀ b₀ (record { p = p; lhs = Node m }) b → Chaining inp d k P Q p₀ b₀ p b m.0
@@ -136,6 +138,7 @@ module _ {inp : Input} {d k : ℕ} {P Q : Part Rule} {p₀ : Parser} {b₀ : Lis
                 enough = omega (arith, l, became_no_more y);
                 whole = ap (λ (o : Result). firstly o (λ f ys. leaned n d k Q n f ys)) e;
               }
+          by (miss _ _) e y h = elim h [ ]
 
   -- The chain ends.
   pub c-done : {m : CompletedMarker} → Chaining inp d k P Q p₀ b₀ p b m.0 → stands inp (heads_of Q) p ≡ false →

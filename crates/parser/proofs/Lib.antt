@@ -15,6 +15,3 @@ pub mod Turns
 pub mod Nodes
 pub mod Chains
 pub mod Levels
-pub mod Lent
-pub mod LentWalk
-pub mod ByValueWalk

@@ -113,6 +113,7 @@ module _ {inp : Input} {d k : ℕ} {c : Choice} {P Q : Part Rule} {p₀ : Parser
         where
           by : (o : Result) → Became inp o p₀ b₀ p b → Missing o → Became inp (suffixed n d k Q o) p₀ b₀ p b
           by (miss f ys) y missing = y
+          by (done _ _) y h = elim h [ ]
 
   -- P stands alone.
   pub x-stay : {m : CompletedMarker} → single P ≡ true → ReadOperand inp d P p₀ b₀ (record { p = p; lhs = Node m }) b → stands inp (heads_of Q) p ≡ false →
@@ -128,6 +129,7 @@ module _ {inp : Input} {d k : ℕ} {c : Choice} {P Q : Part Rule} {p₀ : Parser
           by (done f ys) y (found e) =
               let a : at (heads_of Q) ys ≡ false = ap (at (heads_of Q)) (sym (y.ends (became_goes y h) h)) ∙ stands_at inp (heads_of Q) p s h in
               rw a y
+          by (miss _ _) y h = elim h [ ]
 
   -- P is followed by Q.
   pub x-turn : {m : CompletedMarker} {s : Started} {e : List ℕ} {q : Parser} {f : List ℕ} {r : Completed} {g : List ℕ} → single P ≡ true →
@@ -147,3 +149,4 @@ module _ {inp : Input} {d k : ℕ} {c : Choice} {P Q : Part Rule} {p₀ : Parser
           by (done v ys) w i (found j) =
               let a : at (heads_of Q) ys ≡ true = ap (at (heads_of Q)) (sym (i.ends (became_goes i h) h)) ∙ stands_at inp (heads_of Q) p t h in
               rw a (turned v ys (w v ys refl) m.0 i (λ _. j) y z u n (omega (arith, l, became_no_more i)))
+          by (miss _ _) w i h = elim h [ ]

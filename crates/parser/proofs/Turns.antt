@@ -5,7 +5,7 @@ use native.Mathlib.Omega.{arith}
 use mathlib.Core.Path.{◌≡◌, refl, sym, ap, subst, ◌∙◌}
 use mathlib.Core.List.{List, [], ◌∷◌, ◌++◌, append_assoc}
 use lib.ListN.{length, length-append}
-use Rattle.predictive.specs.Forest.{Forest, nil, node, wrap}
+use Rattle.predictive.specs.Forest.{Forest, nil, leaf, err, node, wrap}
 use Rattle.predictive.specs.Grammar.{Part}
 use Rattle.predictive.specs.Reader.{Result, done, read}
 use Rattle.predictive.specs.Events.{Event, start, finish, events, behind_start, events_of, left_over}
@@ -46,6 +46,18 @@ split (wrap k a b nil) whole-wrap =
       splits = λ up. append_assoc (events a (behind_start a)) (start k up ∷ events b 0) (finish ∷ []);
       behind = omega (arith, length-append (events b 0) (finish ∷ []));
     }
+-- no other forest is whole
+split nil w = elim w [ ]
+split (leaf kind _) w = elim w [ ]
+split (err _ _) w = elim w [ ]
+split (node k i (leaf kind _)) w = elim w [ ]
+split (node k i (err _ _)) w = elim w [ ]
+split (node k i (node kind inside _)) w = elim w [ ]
+split (node k i (wrap kind a b _)) w = elim w [ ]
+split (wrap k a b (leaf kind _)) w = elim w [ ]
+split (wrap k a b (err _ _)) w = elim w [ ]
+split (wrap k a b (node kind inside _)) w = elim w [ ]
+split (wrap k a b (wrap kind _ _ _)) w = elim w [ ]
 
 -- events with a forward parent count as those without
 advance-parent : (inp : Input) (n : ℕ) (f : Forest) → Whole f → (up vp : ℕ) (p : Parser) → advance inp n (events f up) p ≡ advance inp n (events f vp) p

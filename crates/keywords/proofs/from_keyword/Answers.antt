@@ -7,9 +7,5 @@ use Rattle.aadl.proofs.KeywordKinds.{own-kind}
 use Rattle.keywords.proofs.from_keyword.Goals as goal
 
 
-
 pub returns-clause-own_kind : goal.returns-clause-own_kind
-returns-clause-own_kind c = ?
-
--- SPEC pub from-keyword_spec : {M : Type 1} → statement M
--- from-keyword_spec = tie.close (tie.spec (λ c κs. search rules) (λ c κs. search rules) returns)
+returns-clause-own_kind c = subst (OwnKind c.args.word.now) (sym c.keyword.ensures) (own-kind c.args.word.now)

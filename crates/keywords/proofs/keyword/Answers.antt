@@ -41,24 +41,20 @@ is_word_in-requires c =
     ((slot_read c).1, lent.letters_lent, lent.starts_lent, lent.lengths_lent)
 
 pub bounds-kinds-i : goal.bounds-kinds-i
-bounds-kinds-i c = (slot_read c).1
+bounds-kinds-i c = (slot_read c.before.before.before).1
 
 pub returns-then-is_word_in : goal.returns-then-is_word_in
 returns-then-is_word_in c =
-    let at-is-word-in = c in
-    let at_slot = at-is-word-in in
-    let start = at_slot in
-    let i = at_slot.wide-i.result in
-    let r = slot_read at_slot in
+    let i = c.wide-i.result in
+    let r = slot_read c.before.before.before.before.before in
     c.wide32.ensures
-    ∙ ap (λ (l : List ℕ). get_or l i 0) start.requires.kinds_lent
+    ∙ ap (λ (l : List ℕ). get_or l i 0) c.requires.kinds_lent
     ∙ kind_at i r.1
-    ∙ sym (kind-if_same start.args.word.now i r.1 (sym at-is-word-in.is_word_in.ensures ∙ c.if-is_word_in.true))
+    ∙ sym (kind-if_same c.args.word.now i r.1 (sym c.is_word_in.ensures ∙ c.if-is_word_in.true))
 
 pub returns : goal.returns
 returns c =
-    let at_slot = c in
-    let w = at_slot.args.word.now in
+    let w = c.args.word.now in
     sym
     (kind-if_not_candidate w
-    (ap (λ (k : ℕ). same (row k).word w) (sym (slot_read at_slot).0) ∙ sym c.is_word_in.ensures ∙ c.if-is_word_in.false))
+    (ap (λ (k : ℕ). same (row k).word w) (sym (slot_read c.before.before).0) ∙ sym c.is_word_in.ensures ∙ c.if-is_word_in.false))

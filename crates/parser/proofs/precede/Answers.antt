@@ -16,7 +16,7 @@ pub link_start-requires : goal.link_start-requires
 link_start-requires c =
     let at-if1 = c in
     let at-start = at-if1 in
-    omega (arith, started-fits at-start.start-s.ensures at-if1.if-q-ne0.false, room_most at-start.start-s.new.0)
+    omega (arith, started-fits at-start.start-s.ensures at-if1.if-q-ne0.false, room_most at-start.start-s.new.events)
 
 pub returns-then-i-place : goal.returns-then-i-place
 returns-then-i-place c =
