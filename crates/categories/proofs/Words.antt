@@ -39,7 +39,7 @@ pub data Each (F : List ℕ → Type 0) : List ℕ → Type 0 where
   no_more : Each F []
   ◌also◌ : {k : ℕ} {ks : List ℕ} → ((ys : List ℕ) → F (k ∷ ys)) → Each F ks → Each F (k ∷ ks)
 
-pub begins-any : {ks : List ℕ} (F : List ℕ → Type 0) → Each F ks → (xs : List ℕ) → at (ones ks) xs ≡ true → F xs
+pub begins-any : (F : List ℕ → Type 0) {ks : List ℕ} → Each F ks → (xs : List ℕ) → at (ones ks) xs ≡ true → F xs
 unfolding ones
 begins-any F no_more xs e = never e
 begins-any F (◌also◌ {k} {ks} f fs) xs e =

@@ -5,7 +5,7 @@
 #![tactic(auto)]
 
 ghost use Rattle.std.specs.Prelude.{◌≡◌, false, ◌&&◌, [], ◌∷◌, ◌+◌, ◌-◌, ◌≤◌, ◌<◌, length, drop, eqb};
-ghost use Rattle.aadl.specs.Kinds.{#◌, WHITESPACE as WHITE, IDENT as NAME, INTEGER_LIT, STRING_LIT};
+ghost use Rattle.aadl.specs.Kinds.{#◌, WHITESPACE as WHITE, IDENT as NAME, INTEGER_LIT as INTEGER, STRING_LIT as STRING};
 ghost use Rattle.aadl.specs.Bytes.{run_end, is_ident_continue, is_grouped};
 ghost use Rattle.aadl.specs.Tokens.{token, quoted, unbased, exponent_end, radix_digit, based, real, integer, number_from, number_of, mark_of, token_of};
 ghost use Rattle.keywords.specs.Tables.{Lent};
@@ -78,7 +78,7 @@ fn quoted(s: &[u8], from: usize) -> Quoted
 }
 
 fn scan_string(s: &[u8], at: usize) -> Token
-    requires { Begins s.now at (# STRING_LIT) }
+    requires { Begins s.now at (# STRING) }
     ensures { result ≡ token_of (drop at s.now) }
 {
     let q = quoted(s, at + 1);
@@ -221,7 +221,7 @@ pub fn number_from(s: &[u8], at: usize, d: usize, classes: &[u8; 256]) -> Number
 // The number at a place. Where neither a letter nor `#` stands behind its digits, as behind most, it is an integer, or with a dot a real, and is read
 // without a call of `number_from`.
 fn scan_number(s: &[u8], at: usize, classes: &[u8; 256]) -> Number
-    requires { Begins s.now at (# INTEGER_LIT) × (classes.now ≡ class_table) }
+    requires { Begins s.now at (# INTEGER) × (classes.now ≡ class_table) }
     ensures { result ≡ number_of (drop at s.now) }
 {
     let d = run_end(s, at + 1, DIGITS, classes);

@@ -16,14 +16,9 @@ use Rattle.keywords.proofs.Columns.{kind_at, slot_at}
 use Rattle.keywords.proofs.OneCandidate.{hash-in, candidate-in, kind-if_same, kind-if_not_candidate, kind-if_other_length}
 use Rattle.keywords.proofs.keyword.Goals as goal
 
-slot_read : (q : goal.After-wide-i) →
-    let start = q in
-    (q.wide-i.result ≡ candidate (hash_of start.args.word.now)) × (q.wide-i.result < 82)
-slot_read q =
-    let start = q in
-    let w = start.args.word.now in
-    let e = q.wide-i.ensures ∙ (λ k. get_or (start.requires.slots_lent k) (q.hash.ensures k) 0) ∙ slot_at (hash_of w) (hash-in w) in
-    (e, omega (arith, e, candidate-in (hash_of w) (hash-in w)))
+-- a slot that is the hash's candidate is a row's
+in_table : (w : List ℕ) (i : ℕ) → i ≡ candidate (hash_of w) → i < 82
+in_table w i e = omega (arith, e, candidate-in (hash_of w) (hash-in w))
 
 pub returns-then-n : goal.returns-then-n
 returns-then-n c =
@@ -37,24 +32,34 @@ returns-then-n c =
 
 pub is_word_in-requires : goal.is_word_in-requires
 is_word_in-requires c =
+    let w = c.args.word.now in
+    let e : c.wide-i.result ≡ candidate (hash_of w) =
+        c.wide-i.ensures ∙ (λ k. get_or (c.requires.slots_lent k) (c.hash.ensures k) 0) ∙ slot_at (hash_of w) (hash-in w) in
     let lent = c.requires in
-    ((slot_read c).1, lent.letters_lent, lent.starts_lent, lent.lengths_lent)
+    (in_table w c.wide-i.result e, lent.letters_lent, lent.starts_lent, lent.lengths_lent)
 
 pub bounds-kinds-i : goal.bounds-kinds-i
-bounds-kinds-i c = (slot_read c.before.before.before).1
+bounds-kinds-i c =
+    let w = c.args.word.now in
+    let e : c.wide-i.result ≡ candidate (hash_of w) =
+        c.wide-i.ensures ∙ (λ k. get_or (c.requires.slots_lent k) (c.hash.ensures k) 0) ∙ slot_at (hash_of w) (hash-in w) in
+    in_table w c.wide-i.result e
 
 pub returns-then-is_word_in : goal.returns-then-is_word_in
 returns-then-is_word_in c =
+    let w = c.args.word.now in
+    let e : c.wide-i.result ≡ candidate (hash_of w) =
+        c.wide-i.ensures ∙ (λ k. get_or (c.requires.slots_lent k) (c.hash.ensures k) 0) ∙ slot_at (hash_of w) (hash-in w) in
     let i = c.wide-i.result in
-    let r = slot_read c.before.before.before.before.before in
+    let h = in_table w i e in
     c.wide32.ensures
     ∙ ap (λ (l : List ℕ). get_or l i 0) c.requires.kinds_lent
-    ∙ kind_at i r.1
-    ∙ sym (kind-if_same c.args.word.now i r.1 (sym c.is_word_in.ensures ∙ c.if-is_word_in.true))
+    ∙ kind_at i h
+    ∙ sym (kind-if_same w i h (sym c.is_word_in.ensures ∙ c.if-is_word_in.true))
 
 pub returns : goal.returns
 returns c =
     let w = c.args.word.now in
-    sym
-    (kind-if_not_candidate w
-    (ap (λ (k : ℕ). same (row k).word w) (sym (slot_read c.before.before).0) ∙ sym c.is_word_in.ensures ∙ c.if-is_word_in.false))
+    let e : c.wide-i.result ≡ candidate (hash_of w) =
+        c.wide-i.ensures ∙ (λ k. get_or (c.requires.slots_lent k) (c.hash.ensures k) 0) ∙ slot_at (hash_of w) (hash-in w) in
+    sym (kind-if_not_candidate w (ap (λ (k : ℕ). same (row k).word w) (sym e) ∙ sym c.is_word_in.ensures ∙ c.if-is_word_in.false))

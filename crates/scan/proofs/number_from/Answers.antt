@@ -1,0 +1,116 @@
+-- What stands where the digits end tells the case of the definition (NumberCases). Each fact that more than one case uses is said once, of the
+-- place behind the test for a C-style literal. Assumes nothing.
+use Prim.Native.Nat.{ℕ, ◌+◌, ◌-◌, ◌≤◌, ◌<◌}
+use mathlib.Core.Path.{◌≡◌, refl, sym, ap, ◌∙◌}
+use mathlib.Core.Bool.{Bool, true, false, not, ◌&&◌}
+use mathlib.Core.List.{List}
+use native.Mathlib.Omega.{arith}
+use lib.ListN.{length, get_or, drop}
+use lib.Seq.{get_or-drop}
+use lib.Dec.{eqb}
+use borrow.Author.Tests.{eq-eqb, ne_eqb}
+use Rattle.predictive.proofs.Tests.{and_l}
+use Rattle.aadl.specs.Bytes.{peek, is_digit, is_ident_continue}
+use Rattle.aadl.specs.Tokens.{radix_digit}
+use Rattle.aadl.proofs.RunLaws.{run-end_from, run-rest}
+use Rattle.aadl.proofs.TokenBounds.{inside}
+use Rattle.cursor.specs.declared.Window.{Window}
+use Rattle.classes.specs.Classes.{member}
+use Rattle.scan.proofs.NumberCases.{Digits, digits-by_window, c_style-test, c_style-number, based-number, dotted-number, exponent-number, plain-number}
+use borrow.Author.Rules.{rules}
+use Rattle.scan.proofs.number_from.Goals as goal
+
+abbrev text : goal.After-is_c_style → List ℕ
+text q = q.args.s.now
+
+abbrev at : goal.After-is_c_style → ℕ
+at q = q.args.at
+
+-- where the digits end
+abbrev end : goal.After-is_c_style → ℕ
+end q = q.args.d
+
+abbrev window : goal.After-is_c_style → Window
+window q = q.window_at-w.result
+
+-- a byte that is tested for stands in the text
+stands : (q : goal.After-is_c_style) (p : ℕ → Bool) → p 0 ≡ false → p (window q).first ≡ true → end q + 1 ≤ length (text q)
+stands q p z e = omega (arith, inside p z (text q) (end q) (ap p (sym (digits q).here) ∙ e))
+
+pub overflow_sub-run_end : goal.overflow_sub-run_end
+unfolding member
+overflow_sub-run_end c = let q = c.before in omega (arith, c.run_end.ensures.0, run-end_from is_ident_continue (text q) (at q))
+
+pub returns-then-is_c_style : goal.returns-then-is_c_style
+unfolding member
+returns-then-is_c_style c =
+    let end-from : at c < end c = c.requires.0 in
+    let digits : Digits (text c) (at c) (end c) (window c).first (window c).second = digits-by_window (text c) (at c) (end c) (window c) (end-from) c.window_at-w.ensures in
+    let tested : c_style-test (digits) ≡ c.is_c_style.result = let first : peek (drop (at c) (text c)) 0 ≡ get_or (text c) (at c) 0 = get_or-drop (at c) (text c) 0 0 ∙ ap (peek (text c)) (omega arith) in
+    ap (λ (b : ℕ). (eqb (end c - at c) 1 && eqb b 48) && radix_digit (window c).first (window c).second) first ∙ sym c.is_c_style.ensures in
+    let q = c.before in
+    let r = c.run_end in
+    let e = ap (λ (e : ℕ). e - at q) r.ensures.0 ∙ run-rest is_ident_continue (text q) (at q) in
+    c.unbased.ensures ∙ c_style-number (digits) (tested ∙ c.if-is_c_style.true) (r.result - at q) e
+
+pub returns-then-b-eq35 : goal.returns-then-b-eq35
+returns-then-b-eq35 c =
+    let end-from : at c < end c = c.requires.0 in
+    let digits : Digits (text c) (at c) (end c) (window c).first (window c).second = digits-by_window (text c) (at c) (end c) (window c) (end-from) c.window_at-w.ensures in
+    let tested : c_style-test (digits) ≡ c.is_c_style.result = let first : peek (drop (at c) (text c)) 0 ≡ get_or (text c) (at c) 0 = get_or-drop (at c) (text c) 0 0 ∙ ap (peek (text c)) (omega arith) in
+    ap (λ (b : ℕ). (eqb (end c - at c) 1 && eqb b 48) && radix_digit (window c).first (window c).second) first ∙ sym c.is_c_style.ensures in
+    let q2 = c.before in
+    let q1 = q2.before in
+    let q = q1.before in
+    c.scan_based.ensures ∙ based-number (digits) (tested ∙ q1.if-is_c_style.false) (eq-eqb _ 35 q2.if-b-eq35.true)
+
+pub scan_real-requires : goal.scan_real-requires
+unfolding member
+scan_real-requires c =
+    let end-from : at c < end c = c.requires.0 in
+    let q = c.before in
+    (omega (arith, c.run_end-then-b-c.ensures.0, run-end_from is_digit (text q) (end q + 1), end-from), q.requires.2)
+
+pub returns-then-b-c : goal.returns-then-b-c
+unfolding member
+returns-then-b-c c =
+    let end-from : at c < end c = c.requires.0 in
+    let digits : Digits (text c) (at c) (end c) (window c).first (window c).second = digits-by_window (text c) (at c) (end c) (window c) (end-from) c.window_at-w.ensures in
+    let tested : c_style-test (digits) ≡ c.is_c_style.result = let first : peek (drop (at c) (text c)) 0 ≡ get_or (text c) (at c) 0 = get_or-drop (at c) (text c) 0 0 ∙ ap (peek (text c)) (omega arith) in
+    ap (λ (b : ℕ). (eqb (end c - at c) 1 && eqb b 48) && radix_digit (window c).first (window c).second) first ∙ sym c.is_c_style.ensures in
+    let q3 = c.before in
+    let q2 = q3.before in
+    let q1 = q2.before in
+    let q = q1.before in
+    let e = c.run_end-then-b-c in
+    c.scan_real.ensures ∙ dotted-number (digits) (tested ∙ q1.if-is_c_style.false) (ne_eqb _ 35 q2.if-b-eq35.false) q3.if-b-c.true e.result e.ensures.0
+
+pub returns-then-in_class : goal.returns-then-in_class
+unfolding member
+returns-then-in_class c =
+    let end-from : at c < end c = c.requires.0 in
+    let digits : Digits (text c) (at c) (end c) (window c).first (window c).second = digits-by_window (text c) (at c) (end c) (window c) (end-from) c.window_at-w.ensures in
+    let tested : c_style-test (digits) ≡ c.is_c_style.result = let first : peek (drop (at c) (text c)) 0 ≡ get_or (text c) (at c) 0 = get_or-drop (at c) (text c) 0 0 ∙ ap (peek (text c)) (omega arith) in
+    ap (λ (b : ℕ). (eqb (end c - at c) 1 && eqb b 48) && radix_digit (window c).first (window c).second) first ∙ sym c.is_c_style.ensures in
+    let q4 = c.before in
+    let q3 = q4.before in
+    let q2 = q3.before in
+    let q1 = q2.before in
+    let q = q1.before in
+    c.scan_real-then-in_class.ensures
+    ∙ exponent-number (digits) (tested ∙ q1.if-is_c_style.false) (ne_eqb _ 35 q2.if-b-eq35.false) q3.if-b-c.false (sym q4.in_class.ensures ∙ q4.if-in_class.true)
+
+pub returns : goal.returns
+unfolding member
+returns c =
+    let end-from : at c < end c = c.requires.0 in
+    let digits : Digits (text c) (at c) (end c) (window c).first (window c).second = digits-by_window (text c) (at c) (end c) (window c) (end-from) c.window_at-w.ensures in
+    let tested : c_style-test (digits) ≡ c.is_c_style.result = let first : peek (drop (at c) (text c)) 0 ≡ get_or (text c) (at c) 0 = get_or-drop (at c) (text c) 0 0 ∙ ap (peek (text c)) (omega arith) in
+    ap (λ (b : ℕ). (eqb (end c - at c) 1 && eqb b 48) && radix_digit (window c).first (window c).second) first ∙ sym c.is_c_style.ensures in
+    let q4 = c.before in
+    let q3 = q4.before in
+    let q2 = q3.before in
+    let q1 = q2.before in
+    let q = q1.before in
+    c.scan_integer.ensures
+    ∙ plain-number (digits) (tested ∙ q1.if-is_c_style.false) (ne_eqb _ 35 q2.if-b-eq35.false) q3.if-b-c.false (sym q4.in_class.ensures ∙ q4.if-in_class.false)
