@@ -20,45 +20,39 @@ use Rattle.scan.proofs.NumberCases.{Digits, digits-by_window, c_style-test, c_st
 use borrow.Author.Rules.{rules}
 use Rattle.scan.proofs.number_from.Goals as goal
 
-abbrev text : goal.After-is_c_style → List ℕ
-text q = q.args.s.now
-
-abbrev at : goal.After-is_c_style → ℕ
-at q = q.args.at
-
--- where the digits end
-abbrev end : goal.After-is_c_style → ℕ
-end q = q.args.d
-
-abbrev window : goal.After-is_c_style → Window
-window q = q.window_at-w.result
-
--- a byte that is tested for stands in the text
-stands : (q : goal.After-is_c_style) (p : ℕ → Bool) → p 0 ≡ false → p (window q).first ≡ true → end q + 1 ≤ length (text q)
-stands q p z e = omega (arith, inside p z (text q) (end q) (ap p (sym (digits q).here) ∙ e))
-
 pub overflow_sub-run_end : goal.overflow_sub-run_end
 unfolding member
-overflow_sub-run_end c = let q = c.before in omega (arith, c.run_end.ensures.0, run-end_from is_ident_continue (text q) (at q))
+overflow_sub-run_end c =
+    let text : List ℕ = c.args.s.now in
+    let at : ℕ = c.args.at in
+    let q = c.before in omega (arith, c.run_end.ensures.0, run-end_from is_ident_continue (text) (at))
 
 pub returns-then-is_c_style : goal.returns-then-is_c_style
 unfolding member
 returns-then-is_c_style c =
-    let end-from : at c < end c = c.requires.0 in
-    let digits : Digits (text c) (at c) (end c) (window c).first (window c).second = digits-by_window (text c) (at c) (end c) (window c) (end-from) c.window_at-w.ensures in
-    let tested : c_style-test (digits) ≡ c.is_c_style.result = let first : peek (drop (at c) (text c)) 0 ≡ get_or (text c) (at c) 0 = get_or-drop (at c) (text c) 0 0 ∙ ap (peek (text c)) (omega arith) in
-    ap (λ (b : ℕ). (eqb (end c - at c) 1 && eqb b 48) && radix_digit (window c).first (window c).second) first ∙ sym c.is_c_style.ensures in
+    let text : List ℕ = c.args.s.now in
+    let at : ℕ = c.args.at in
+    let end : ℕ = c.args.d in
+    let window : Window = c.window_at-w.result in
+    let end-from : at < end = c.requires.0 in
+    let digits : Digits (text) (at) (end) window.first window.second = digits-by_window (text) (at) (end) (window) (end-from) c.window_at-w.ensures in
+    let tested : c_style-test (digits) ≡ c.is_c_style.result = let first : peek (drop (at) (text)) 0 ≡ get_or (text) (at) 0 = get_or-drop (at) (text) 0 0 ∙ ap (peek (text)) (omega arith) in
+    ap (λ (b : ℕ). (eqb (end - at) 1 && eqb b 48) && radix_digit window.first window.second) first ∙ sym c.is_c_style.ensures in
     let q = c.before in
     let r = c.run_end in
-    let e = ap (λ (e : ℕ). e - at q) r.ensures.0 ∙ run-rest is_ident_continue (text q) (at q) in
-    c.unbased.ensures ∙ c_style-number (digits) (tested ∙ c.if-is_c_style.true) (r.result - at q) e
+    let e = ap (λ (e : ℕ). e - at) r.ensures.0 ∙ run-rest is_ident_continue (text) (at) in
+    c.unbased.ensures ∙ c_style-number (digits) (tested ∙ c.if-is_c_style.true) (r.result - at) e
 
 pub returns-then-b-eq35 : goal.returns-then-b-eq35
 returns-then-b-eq35 c =
-    let end-from : at c < end c = c.requires.0 in
-    let digits : Digits (text c) (at c) (end c) (window c).first (window c).second = digits-by_window (text c) (at c) (end c) (window c) (end-from) c.window_at-w.ensures in
-    let tested : c_style-test (digits) ≡ c.is_c_style.result = let first : peek (drop (at c) (text c)) 0 ≡ get_or (text c) (at c) 0 = get_or-drop (at c) (text c) 0 0 ∙ ap (peek (text c)) (omega arith) in
-    ap (λ (b : ℕ). (eqb (end c - at c) 1 && eqb b 48) && radix_digit (window c).first (window c).second) first ∙ sym c.is_c_style.ensures in
+    let text : List ℕ = c.args.s.now in
+    let at : ℕ = c.args.at in
+    let end : ℕ = c.args.d in
+    let window : Window = c.window_at-w.result in
+    let end-from : at < end = c.requires.0 in
+    let digits : Digits (text) (at) (end) window.first window.second = digits-by_window (text) (at) (end) (window) (end-from) c.window_at-w.ensures in
+    let tested : c_style-test (digits) ≡ c.is_c_style.result = let first : peek (drop (at) (text)) 0 ≡ get_or (text) (at) 0 = get_or-drop (at) (text) 0 0 ∙ ap (peek (text)) (omega arith) in
+    ap (λ (b : ℕ). (eqb (end - at) 1 && eqb b 48) && radix_digit window.first window.second) first ∙ sym c.is_c_style.ensures in
     let q2 = c.before in
     let q1 = q2.before in
     let q = q1.before in
@@ -67,17 +61,24 @@ returns-then-b-eq35 c =
 pub scan_real-requires : goal.scan_real-requires
 unfolding member
 scan_real-requires c =
-    let end-from : at c < end c = c.requires.0 in
+    let text : List ℕ = c.args.s.now in
+    let end : ℕ = c.args.d in
+    let at : ℕ = c.args.at in
+    let end-from : at < end = c.requires.0 in
     let q = c.before in
-    (omega (arith, c.run_end-then-b-c.ensures.0, run-end_from is_digit (text q) (end q + 1), end-from), q.requires.2)
+    (omega (arith, c.run_end-then-b-c.ensures.0, run-end_from is_digit (text) (end + 1), end-from), q.requires.2)
 
 pub returns-then-b-c : goal.returns-then-b-c
 unfolding member
 returns-then-b-c c =
-    let end-from : at c < end c = c.requires.0 in
-    let digits : Digits (text c) (at c) (end c) (window c).first (window c).second = digits-by_window (text c) (at c) (end c) (window c) (end-from) c.window_at-w.ensures in
-    let tested : c_style-test (digits) ≡ c.is_c_style.result = let first : peek (drop (at c) (text c)) 0 ≡ get_or (text c) (at c) 0 = get_or-drop (at c) (text c) 0 0 ∙ ap (peek (text c)) (omega arith) in
-    ap (λ (b : ℕ). (eqb (end c - at c) 1 && eqb b 48) && radix_digit (window c).first (window c).second) first ∙ sym c.is_c_style.ensures in
+    let text : List ℕ = c.args.s.now in
+    let at : ℕ = c.args.at in
+    let end : ℕ = c.args.d in
+    let window : Window = c.window_at-w.result in
+    let end-from : at < end = c.requires.0 in
+    let digits : Digits (text) (at) (end) window.first window.second = digits-by_window (text) (at) (end) (window) (end-from) c.window_at-w.ensures in
+    let tested : c_style-test (digits) ≡ c.is_c_style.result = let first : peek (drop (at) (text)) 0 ≡ get_or (text) (at) 0 = get_or-drop (at) (text) 0 0 ∙ ap (peek (text)) (omega arith) in
+    ap (λ (b : ℕ). (eqb (end - at) 1 && eqb b 48) && radix_digit window.first window.second) first ∙ sym c.is_c_style.ensures in
     let q3 = c.before in
     let q2 = q3.before in
     let q1 = q2.before in
@@ -88,10 +89,14 @@ returns-then-b-c c =
 pub returns-then-in_class : goal.returns-then-in_class
 unfolding member
 returns-then-in_class c =
-    let end-from : at c < end c = c.requires.0 in
-    let digits : Digits (text c) (at c) (end c) (window c).first (window c).second = digits-by_window (text c) (at c) (end c) (window c) (end-from) c.window_at-w.ensures in
-    let tested : c_style-test (digits) ≡ c.is_c_style.result = let first : peek (drop (at c) (text c)) 0 ≡ get_or (text c) (at c) 0 = get_or-drop (at c) (text c) 0 0 ∙ ap (peek (text c)) (omega arith) in
-    ap (λ (b : ℕ). (eqb (end c - at c) 1 && eqb b 48) && radix_digit (window c).first (window c).second) first ∙ sym c.is_c_style.ensures in
+    let text : List ℕ = c.args.s.now in
+    let at : ℕ = c.args.at in
+    let end : ℕ = c.args.d in
+    let window : Window = c.window_at-w.result in
+    let end-from : at < end = c.requires.0 in
+    let digits : Digits (text) (at) (end) window.first window.second = digits-by_window (text) (at) (end) (window) (end-from) c.window_at-w.ensures in
+    let tested : c_style-test (digits) ≡ c.is_c_style.result = let first : peek (drop (at) (text)) 0 ≡ get_or (text) (at) 0 = get_or-drop (at) (text) 0 0 ∙ ap (peek (text)) (omega arith) in
+    ap (λ (b : ℕ). (eqb (end - at) 1 && eqb b 48) && radix_digit window.first window.second) first ∙ sym c.is_c_style.ensures in
     let q4 = c.before in
     let q3 = q4.before in
     let q2 = q3.before in
@@ -103,10 +108,14 @@ returns-then-in_class c =
 pub returns : goal.returns
 unfolding member
 returns c =
-    let end-from : at c < end c = c.requires.0 in
-    let digits : Digits (text c) (at c) (end c) (window c).first (window c).second = digits-by_window (text c) (at c) (end c) (window c) (end-from) c.window_at-w.ensures in
-    let tested : c_style-test (digits) ≡ c.is_c_style.result = let first : peek (drop (at c) (text c)) 0 ≡ get_or (text c) (at c) 0 = get_or-drop (at c) (text c) 0 0 ∙ ap (peek (text c)) (omega arith) in
-    ap (λ (b : ℕ). (eqb (end c - at c) 1 && eqb b 48) && radix_digit (window c).first (window c).second) first ∙ sym c.is_c_style.ensures in
+    let text : List ℕ = c.args.s.now in
+    let at : ℕ = c.args.at in
+    let end : ℕ = c.args.d in
+    let window : Window = c.window_at-w.result in
+    let end-from : at < end = c.requires.0 in
+    let digits : Digits (text) (at) (end) window.first window.second = digits-by_window (text) (at) (end) (window) (end-from) c.window_at-w.ensures in
+    let tested : c_style-test (digits) ≡ c.is_c_style.result = let first : peek (drop (at) (text)) 0 ≡ get_or (text) (at) 0 = get_or-drop (at) (text) 0 0 ∙ ap (peek (text)) (omega arith) in
+    ap (λ (b : ℕ). (eqb (end - at) 1 && eqb b 48) && radix_digit window.first window.second) first ∙ sym c.is_c_style.ensures in
     let q4 = c.before in
     let q3 = q4.before in
     let q2 = q3.before in

@@ -1,5 +1,4 @@
 -- The places found are those of the definition, `at` more, and so are the tests (NumberCases). Assumes nothing.
--- the inner digits end behind where they begin
 use Prim.Native.Nat.{◌+◌, ◌-◌, ◌≤◌}
 use mathlib.Core.Path.{◌≡◌, sym, ap, ◌∙◌}
 use mathlib.Core.Logic.{⊎_elim}
@@ -15,8 +14,10 @@ use Rattle.aadl.specs.Tokens.{span, number}
 use Rattle.aadl.proofs.RunLaws.{run-end_from}
 use Rattle.aadl.proofs.TokenBounds.{hash-upto, exponent_end-upto}
 use Rattle.scan.proofs.NumberCases.{based-at}
+use borrow.Author.Tests.{eq-eqb, ne_eqb}
 use borrow.Author.Rules.{rules}
 use Rattle.scan.proofs.scan_based.Goals as goal
+use Rattle.scan.proofs.scan_based.Goals.{then-closed, else-closed, then-has_byte-x, else-has_byte-x}
 
 pub slice_bounds-has_byte-count : goal.slice_bounds-has_byte-count
 unfolding member
@@ -38,7 +39,7 @@ overflow_sub-result c =
     let past : let s = c.args.s.now in
     let e = c.run_end-e.result in
     c.if-closed.f ≡ cond (eqb (peek s e) 35) (e + 1) e = let hash = ap (λ b. eqb b 35) c.peek-closed.ensures in
-    ⊎_elim (λ y. rw (sym hash ∙ y.0.taken) y.1) (λ n. rw (sym hash ∙ n.0.left) n.1) c.if-closed.branch in
+    elim c.if-closed.branch [ then-closed y ↦ rw (sym hash ∙ eq-eqb _ 35 y.if-closed.true) y.f-is | else-closed n ↦ rw (sym hash ∙ ne_eqb _ 35 n.if-closed.false) n.f-is ] in
     let q1 = c.before in
     let q = q1.before in
     let s = q.args.s.now in
@@ -57,14 +58,14 @@ returns c =
     let past : let s = c.args.s.now in
     let e = c.run_end-e.result in
     c.if-closed.f ≡ cond (eqb (peek s e) 35) (e + 1) e = let hash = ap (λ b. eqb b 35) c.peek-closed.ensures in
-    ⊎_elim (λ y. rw (sym hash ∙ y.0.taken) y.1) (λ n. rw (sym hash ∙ n.0.left) n.1) c.if-closed.branch in
+    elim c.if-closed.branch [ then-closed y ↦ rw (sym hash ∙ eq-eqb _ 35 y.if-closed.true) y.f-is | else-closed n ↦ rw (sym hash ∙ ne_eqb _ 35 n.if-closed.false) n.f-is ] in
     let kind : let a = c.args in
     let e = c.run_end-e.result in
     let f = c.if-closed.f in
     c.if-has_byte-x.kind ≡ cond (has (take (e - a.i) (drop a.i a.s.now)) 46 || is_exponent (peek a.s.now f)) (# REAL_LIT) (# INTEGER_LIT) = let dot = c.has_byte.ensures in
     let x = c.in_class-x.ensures ∙ ap is_exponent c.peek.ensures in
     let real : (c.has_byte.result || c.in_class-x.result) ≡ _ = (λ j. dot j || x j) in
-    ⊎_elim (λ y. rw (sym real ∙ y.0.taken) y.1) (λ n. rw (sym real ∙ n.0.left) n.1) c.if-has_byte-x.branch in
+    elim c.if-has_byte-x.branch [ then-has_byte-x y ↦ rw (sym real ∙ y.if-has_byte-x.true) y.kind-is | else-has_byte-x n ↦ rw (sym real ∙ n.if-has_byte-x.false) n.kind-is ] in
     let q1 = c.before in
     let q = q1.before in
     let a = q.args in

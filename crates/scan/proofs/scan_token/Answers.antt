@@ -10,19 +10,18 @@ use Rattle.scan.proofs.Marks.{lone-token}
 use borrow.Author.Rules.{rules}
 use Rattle.scan.proofs.scan_token.Goals as goal
 
-begins : (q : goal.After-lead-k) (k : ℕ) → q.lead-k.result ≡ k → let a = q.args in Begins a.s.now a.at k
-begins q k e =
-    let s = q.before in
-    record { inside = omega (arith, s.requires.0); byte = omega (arith, q.shared_slice_known-1.given s.args.at); leads = sym q.lead-k.ensures ∙ e }
-
 pub returns-then-k : goal.returns-then-k
 returns-then-k c =
+    let begins : (k : ℕ) → c.lead-k.result ≡ k → let a = c.args in Begins a.s.now a.at k = λ k e. let s = c.before in
+    record { inside = omega (arith, s.requires.0); byte = omega (arith, c.shared_slice_known-1.given s.args.at); leads = sym c.lead-k.ensures ∙ e } in
     let q = c.before in
-    c.token.ensures ∙ lone-token _ _ _ (begins q _ refl) c.if-k.true
+    c.token.ensures ∙ lone-token _ _ _ (begins _ refl) c.if-k.true
 
 -- of the number its token keeps kind and length
 pub returns-then-k-eq-INTEGER_LIT : goal.returns-then-k-eq-INTEGER_LIT
 returns-then-k-eq-INTEGER_LIT c =
+    let begins : (k : ℕ) → c.lead-k.result ≡ k → let a = c.args in Begins a.s.now a.at k = λ k e. let s = c.before in
+    record { inside = omega (arith, s.requires.0); byte = omega (arith, c.shared_slice_known-1.given s.args.at); leads = sym c.lead-k.ensures ∙ e } in
     let q4 = c.before in
     let a = q4.args in
-    c.token-then-k-eq-INTEGER_LIT.ensures ∙ ap number_lit c.scan_number-n.ensures ∙ digits-token a.s.now a.at (begins q4.before _ q4.if-k-eq-INTEGER_LIT.true)
+    c.token-then-k-eq-INTEGER_LIT.ensures ∙ ap number_lit c.scan_number-n.ensures ∙ digits-token a.s.now a.at (begins _ q4.if-k-eq-INTEGER_LIT.true)

@@ -27,4 +27,4 @@ unfolding last_gap
 returns c =
     let l = c.loop-i in
     let z : l.i ≡ 0 = omega (arith, c.loop-i-test) in
-    ap (last_gap _) (sym z) ∙ l.invariant.0
+    ap (last_gap c.args.s.now) (sym z) ∙ l.invariant.0
