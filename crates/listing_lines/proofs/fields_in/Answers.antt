@@ -1,4 +1,5 @@
 -- Each class by the event that the word stands for (LineLaws). Assumes nothing.
+-- what an event shows
 use Prim.Native.Nat.{ℕ, ◌≤◌}
 use mathlib.Core.Path.{◌≡◌, sym, ap, ap₂, ◌∙◌}
 use native.Mathlib.Omega.{arith}
@@ -8,14 +9,11 @@ use Rattle.aadl.specs.Tokens.{kind_in}
 use Rattle.aadl.specs.Encoding.{fields, class_in, last_in, event_in}
 use Rattle.aadl.specs.Listing.{letter}
 use Rattle.listing_lines.proofs.LineLaws.{event_by-class, event_by-high}
-use Rattle.listing_lines.proofs.fields_in.Statement.{statement}
-use Rattle.listing_lines.proofs.fields_in.Tie as tie
+use Rattle.listing_lines.proofs.fields_in.Goals as goal
 
--- what an event shows
 shown : (w : ℕ) (e : Event) → event_in w ≡ e → (letter e ≡ letter (event_in w)) × ((fields e).1 ≡ (fields (event_in w)).1) × ((fields e).2 ≡ (fields (event_in w)).2)
 shown w e q = (ap letter (sym q), ap (λ (f : Event). (fields f).1) (sym q), ap (λ (f : Event). (fields f).2) (sym q))
 
--- the kind, the last number and the class that were read
 module _ (w : ℕ) {k l j : ℕ} (kind : k ≡ kind_in w) (last : l ≡ last_in w) (class : j ≡ class_in w) where
   as_start : j ≡ 0 → event_in w ≡ start k l
   as_start h = event_by-class w 0 (sym class ∙ h) ∙ ap₂ start (sym kind) (sym last)
@@ -29,25 +27,23 @@ module _ (w : ℕ) {k l j : ℕ} (kind : k ≡ kind_in w) (last : l ≡ last_in 
   as_error : 3 ≤ j → event_in w ≡ error (message l)
   as_error h = event_by-high w (omega (arith, class, h)) ∙ ap (λ (m : ℕ). error (message m)) (sym last)
 
-returns : tie.Need-returns
-returns c =
-    shown c.before.before.before.before.args.word (start _ _)
-    (as_start _ c.before.before.before.kind_in.ensures c.before.before.last_in.ensures c.before.class_in.ensures c.match.keys1)
+-- the kind, the last number and the class that were read
+pub returns-in-0 : goal.returns-in-0
+returns-in-0 c =
+    shown c.args.word (start _ _)
+    (as_start _ c.kind_in-kind.ensures c.last_in-last.ensures c.class_in.ensures c.in_default.keys1)
 
-returns-2 : tie.Need-returns-2
-returns-2 c =
-    shown c.before.before.before.before.args.word (token _)
-    (as_token _ c.before.before.before.kind_in.ensures c.before.before.last_in.ensures c.before.class_in.ensures c.match.keys2)
+pub returns-in-1 : goal.returns-in-1
+returns-in-1 c =
+    shown c.args.word (token _)
+    (as_token _ c.kind_in-kind.ensures c.last_in-last.ensures c.class_in.ensures c.in_default.keys2)
 
-returns-3 : tie.Need-returns-3
-returns-3 c =
-    shown c.before.before.before.before.args.word finish
-    (as_finish _ c.before.before.before.kind_in.ensures c.before.before.last_in.ensures c.before.class_in.ensures c.match.keys3)
+pub returns-in-2 : goal.returns-in-2
+returns-in-2 c =
+    shown c.args.word finish
+    (as_finish _ c.kind_in-kind.ensures c.last_in-last.ensures c.class_in.ensures c.in_default.keys3)
 
-returns-4 : tie.Need-returns-4
-returns-4 c =
-    shown c.before.before.before.before.args.word (error (message _))
-    (as_error _ c.before.before.before.kind_in.ensures c.before.before.last_in.ensures c.before.class_in.ensures (omega arith))
-
-pub fields-in_spec : {M : Type 1} → statement M
-fields-in_spec = tie.close (tie.spec (λ c κs. tt) (λ c κs. tt) (λ c κs. tt) returns returns-2 returns-3 returns-4)
+pub returns-in_default : goal.returns-in_default
+returns-in_default c =
+    shown c.args.word (error (message _))
+    (as_error _ c.kind_in-kind.ensures c.last_in-last.ensures c.class_in.ensures (omega arith))
