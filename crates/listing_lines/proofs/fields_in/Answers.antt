@@ -31,17 +31,17 @@ module _ (w : ℕ) {k l j : ℕ} (kind : k ≡ kind_in w) (last : l ≡ last_in 
 pub returns-in-0 : goal.returns-in-0
 returns-in-0 c =
     shown c.args.word (start _ _)
-    (as_start _ c.kind_in-kind.ensures c.last_in-last.ensures c.class_in.ensures c.in_default.keys1)
+    (as_start _ c.kind_in-kind.ensures c.last_in-last.ensures c.class_in.ensures (omega arith))
 
 pub returns-in-1 : goal.returns-in-1
 returns-in-1 c =
     shown c.args.word (token _)
-    (as_token _ c.kind_in-kind.ensures c.last_in-last.ensures c.class_in.ensures c.in_default.keys2)
+    (as_token _ c.kind_in-kind.ensures c.last_in-last.ensures c.class_in.ensures (omega arith))
 
 pub returns-in-2 : goal.returns-in-2
 returns-in-2 c =
     shown c.args.word finish
-    (as_finish _ c.kind_in-kind.ensures c.last_in-last.ensures c.class_in.ensures c.in_default.keys3)
+    (as_finish _ c.kind_in-kind.ensures c.last_in-last.ensures c.class_in.ensures (omega arith))
 
 pub returns-in_default : goal.returns-in_default
 returns-in_default c =

@@ -30,5 +30,5 @@ returns c =
     let n = wrote_then l at-field4.put_field-end-4.ensures in
     let w = wrote_then n at-field5.put_field.ensures in
     let e = line-parts a.number a.word s.line s.column (r.letter ∷ []) r.kind r.last f.ensures.0 f.ensures.1 f.ensures.2 in
-    let fits = line-fits a.number r.letter r.kind r.last s.line s.column (omega (arith, start.ranges)) (omega (arith, f.type-inv)) (omega (arith, f.type-inv)) (omega (arith, start.well_formed)) (omega (arith, start.well_formed)) in
+    let fits = line-fits a.number r.letter r.kind r.last s.line s.column (omega arith) (omega arith) (omega arith) (omega arith) (omega arith) in
     (wrote-same w e, omega (arith, ap length e, fits))

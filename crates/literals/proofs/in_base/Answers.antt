@@ -6,15 +6,11 @@ use Prim.Native.Nat.{ℕ}
 use Rattle.aadl.specs.Values.{digits}
 use Rattle.literals.specs.Capped.{DigitsOf}
 use Rattle.literals.proofs.Capping.{literal-told, part-from}
-use Rattle.literals.proofs.in_base.Statement.{statement}
-use Rattle.literals.proofs.in_base.Tie as tie
+use Rattle.literals.proofs.in_base.Goals as goal
 
-returns : tie.Need-returns
+pub returns : goal.returns
 returns c =
-    let a = c.before.before.before.before.before.args in
-    let d = c.before.read-digits in
+    let a = c.args in
+    let d = c.read_digits-d in
     let same = ap digits (part-from a.s.now a.at a.inner.begin a.inner.end) in
     literal-told a.base _ d.result (subst (λ (ds : List ℕ). DigitsOf a.base ds d.result) same d.ensures)
-
-pub in_base-spec : {M : Type 1} → statement M
-in_base-spec = tie.close (tie.spec (λ c. search rules) (λ c. search rules) (λ c κs. search rules) returns)

@@ -1,0 +1,12 @@
+-- Number after number (SpacedLaws), as in `put_words`. Assumes nothing.
+use Prim.Native.Nat.{◌-◌, ◌≤◌}
+use lib.ListN.{length, take}
+use Rattle.writing.specs.Written.{Wrote}
+use Rattle.replay_lines.specs.Records.{spaced}
+use Rattle.replay_lines.proofs.put_numbers.Given as goal
+
+abbrev pub invariant-loop-i : goal.invariant-loop-i
+invariant-loop-i l = Wrote l.initial.out l.at (spaced (take l.i l.numbers)) l.out l.end × (l.i ≤ length l.numbers)
+
+abbrev pub decreases-loop-i : goal.decreases-loop-i
+decreases-loop-i l = length l.numbers - l.i
