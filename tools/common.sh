@@ -23,16 +23,30 @@ run_cargo() {
     (cd "$root/tools" && cargo "$@" --offline --release --quiet --target-dir "$out") || stop "cargo $* failed"
 }
 
-# Runs rt in the repository's folder. What it says is shown where it fails.
+# Runs rt in a crate's folder. What it says is shown where it fails.
 run_rt() {
+    crate=$1
+    shift
     command -v rt > /dev/null || stop "no rt in PATH to run: rt $*"
-    (cd "$root" && rt "$@") > "$out/rt.log" 2>&1 || { cat "$out/rt.log" >&2; stop "rt $* failed"; }
+    (cd "$root/crates/$crate" && rt "$@") > "$out/rt.log" 2>&1 < /dev/null || { cat "$out/rt.log" >&2; stop "rt $* failed in crates/$crate"; }
 }
 
-# Proves and builds the static library. rt always writes it anew; where it is the same it keeps its time, so that cargo has nothing to do.
+# Puts what rt built into a folder of target/. Where it is the same as what lies there, that keeps its time, so that cargo has nothing to do.
+put() {
+    mkdir -p "$(dirname "$2")"
+    cmp -s "$1" "$2" || cp "$1" "$2"
+}
+
+# Proves and builds programs, which lie in target/bin then. rt builds a program only to run it: each runs once, with nothing to read.
+build_programs() {
+    for program in "$@"; do
+        run_rt "$program" run
+        put "$root/crates/$program/out/$program" "$root/target/bin/$program"
+    done
+}
+
+# Proves and builds the static library.
 build_library() {
-    library=$root/target/staticlib/libcapi.a
-    if [ -f "$library" ]; then cp -p "$library" "$out/libcapi.a"; fi
-    run_rt staticlib capi
-    if cmp -s "$out/libcapi.a" "$library"; then touch -r "$out/libcapi.a" "$library"; fi
+    run_rt capi lib
+    put "$root/crates/capi/out/libcapi.a" "$root/target/staticlib/libcapi.a"
 }

@@ -3,9 +3,12 @@
 
 #![tactic(auto)]
 
-use libc::{STDERR_FILENO, STDIN_FILENO};
 use listing::{EVENTS, Listing, READ, TOKENS, begin, next_piece};
-use streams::{read_full, write_out};
+use std::env::FillError;
+use std::io::Read;
+use std::rt::{Env, Files};
+use std::{fs, io};
+use streams::{read_full, tell, write_out};
 
 const HELP: [u8; 208] =
     *b"list [FILE]  prints the listing of the property section in FILE, or in standard input (also: -)
@@ -13,94 +16,114 @@ const HELP: [u8; 208] =
 list --help  prints these three lines
 ";
 
+// How many bytes of a listing are made at once.
+const ROOM: usize = 65536;
+
+// The system's numbers of two errors: a name that is too long, and bytes that are no text.
+const ENAMETOOLONG: i32 = 36;
+
+const EILSEQ: i32 = 84;
+
 // Writes the next piece of a listing, and says whether there was one and it went out.
-fn print_piece(out: &[u8], count: usize) -> bool {
+fn print_piece<R: Print + Eprint>(rt: &R, out: &[u8], count: usize) -> bool {
     if count == 0 {
         return false;
     }
     if out.len() < count {
         return false;
     }
-    write_out(&out[..count])
+    write_out(rt, &out[..count])
 }
 
 // A proved loop has to end: it counts its turns down, from a number that no run uses up.
-fn print(text: &[u8; READ], tokens: &[u32; TOKENS], events: &[u32; EVENTS], l: Listing) {
-    let mut out = io::large_buffer();
+fn print<R: Print + Eprint>(
+    rt: &R,
+    text: &[u8; READ],
+    tokens: &[u32; TOKENS],
+    events: &[u32; EVENTS],
+    l: Listing,
+) {
+    let mut out = [0u8; ROOM];
     let mut at = l;
     let mut turns = u64::MAX;
     let mut on = true;
     while turns > 0 && on {
         let p = next_piece(text, tokens, events, at, &mut out);
-        on = print_piece(&out, p.count);
+        on = print_piece(rt, &out, p.count);
         at = p.listing;
         turns -= 1;
     }
 }
 
-// The listing of what can be read from a descriptor, which has a name for messages.
-fn list(fd: i32, name: &[u8]) {
+// The listing of what can be read from a stream, which has a name for messages.
+fn list<R: Print + Eprint, F: Read>(rt: &R, from: &mut F, name: &str) {
     let mut text = [0u8; READ];
-    let got = read_full(fd, &mut text);
+    let mut why = None;
+    let got = read_full(from, &mut text, &mut why);
     if got.failed {
-        os::fail(name);
+        tell(rt, name, &why);
         return;
     }
     let mut tokens = [0u32; TOKENS];
     let mut events = [0u32; EVENTS];
     let l = begin(&text, got.count, &mut tokens, &mut events);
-    print(&text, &tokens, &events, l);
+    print(rt, &text, &tokens, &events, l);
 }
 
-fn list_file(path: &[u8]) {
-    let fd = os::open_read(path);
-    if fd < 0 {
-        os::fail(path);
-        return;
+fn list_file<R: Files + Print + Eprint>(rt: &R, path: &str) {
+    match fs::open(rt, path) {
+        Ok(mut file) => list(rt, &mut file, path),
+        Err(e) => tell(rt, path, &Some(e)),
     }
-    list(fd, path);
-    libc::close(fd);
 }
 
-fn list_input() {
-    list(STDIN_FILENO, b"standard input");
+fn list_input<R: Input + Print + Eprint>(rt: &R) {
+    list(rt, &mut rt.reader(), "standard input");
 }
 
-fn tell_usage() {
-    io::write_all(
-        STDERR_FILENO,
-        b"list: one FILE at most, and no option but --help\n",
-    );
+fn tell_usage<R: Eprint>(rt: &R) {
+    let _ = rt.eprintln("list: one FILE at most, and no option but --help");
 }
 
-// What one argument asks for. An option begins with `-`, so a file of such a name is given as `./-..`.
-fn answer(arg: &[u8]) {
-    if check::same(arg, b"-") {
-        list_input();
-    } else if check::same(arg, b"--help") {
-        write_out(&HELP);
+// An argument that can't be taken: the system's number of the error says why.
+fn refuse<R: Eprint>(rt: &R, error: i32) {
+    tell(rt, "argument", &Some(io::Error::from_raw_os_error(error)));
+}
+
+// What one argument asks for. An option begins with `-`, so a file of such a name is given as `./-..`. A file has a name that is text.
+fn answer<R: Files + Input + Print + Eprint>(rt: &R, arg: &[u8]) {
+    if arg == b"-".as_slice() {
+        list_input(rt);
+    } else if arg == b"--help".as_slice() {
+        write_out(rt, &HELP);
     } else if 0 < arg.len() && arg[0] == b'-' {
-        tell_usage();
+        tell_usage(rt);
     } else {
-        list_file(arg);
+        match str::from_utf8(arg) {
+            Ok(path) => list_file(rt, path),
+            Err(_) => refuse(rt, EILSEQ),
+        }
     }
 }
 
-fn main() {
-    let count = os::arg_count();
-    if count < 2 {
-        list_input();
+// Whether there is an argument of this number, however long.
+fn is_given(rt: &impl Env, i: usize) -> bool {
+    let mut byte = [0u8; 1];
+    !matches!(rt.arg(i, &mut byte), Err(FillError::NotPresent))
+}
+
+fn main(rt: HostRuntime) {
+    if !is_given(&rt, 1) {
+        list_input(&rt);
         return;
     }
-    if 2 < count {
-        tell_usage();
+    if is_given(&rt, 2) {
+        tell_usage(&rt);
         return;
     }
-    let mut arg = io::buffer();
-    let n = os::arg(1, &mut arg);
-    if os::errno() != 0 {
-        os::fail(b"argument");
-        return;
+    let mut arg = [0u8; 4096];
+    match rt.arg(1, &mut arg) {
+        Ok(n) => answer(&rt, &arg[..n]),
+        Err(_) => refuse(&rt, ENAMETOOLONG),
     }
-    answer(&arg[..n]);
 }

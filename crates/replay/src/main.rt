@@ -12,9 +12,10 @@ ghost use Rattle.replay.specs.Calls.{MakesCall, called, tree_called, parts_calle
 ghost use Rattle.replay.specs.Heads.{number_at, head_from, extended, known, record_head, lent_records};
 
 use aadl::Answer;
-use libc::STDIN_FILENO;
 use replay_lines::{fill, put_parts, put_record, put_tree, put_valued};
-use streams::{read_full, write_out};
+use std::io;
+use std::io::Read;
+use streams::{read_full, tell, write_out};
 use writing::put_text;
 
 // How many bytes and token words the longest record has; how many event words, two for an event; and how many record words, four for a record.
@@ -225,10 +226,10 @@ fn bad(out: &mut [u8], at: usize) -> Step
 }
 
 // A read failed: that is told, and nothing more is written.
-fn failed() -> Step
+fn failed<R: Eprint>(rt: &R, why: &Option<io::Error>) -> Step
     ensures { (result.at ≡ 0) × (result.on ≡ false) }
 {
-    os::fail(b"standard input");
+    tell(rt, "standard input", why);
     Step { at: 0, on: false }
 }
 
@@ -290,7 +291,9 @@ fn lend(
 }
 
 // Reads a record's text and answers the record.
-fn answer_record(
+fn answer_record<R: Eprint, F: Read>(
+    rt: &R,
+    from: &mut F,
     text: &mut [u8],
     tokens: &mut [u32],
     events: &mut [u32],
@@ -303,9 +306,10 @@ fn answer_record(
     if text.len() < n {
         return bad(out, at);
     }
-    let got = read_full(STDIN_FILENO, &mut text[0..n]);
+    let mut why = None;
+    let got = read_full(from, &mut text[0..n], &mut why);
     if got.failed {
-        return failed();
+        return failed(rt, &why);
     }
     if got.count < n {
         return bad(out, at);
@@ -314,7 +318,9 @@ fn answer_record(
 }
 
 // Reads a record and answers it. Of the numbers before the text, one of the extended form has sixteen bytes behind the first twelve.
-fn turn(
+fn turn<R: Eprint, F: Read>(
+    rt: &R,
+    from: &mut F,
     text: &mut [u8],
     tokens: &mut [u32],
     events: &mut [u32],
@@ -324,9 +330,10 @@ fn turn(
 ) -> Step {
     let mut front = [0u8; 16];
     let mut back = [0u8; 16];
-    let got = read_full(STDIN_FILENO, &mut front[0..12]);
+    let mut why = None;
+    let got = read_full(from, &mut front[0..12], &mut why);
     if got.failed {
-        return failed();
+        return failed(rt, &why);
     }
     if got.count == 0 {
         return Step { at, on: false };
@@ -335,15 +342,17 @@ fn turn(
         return bad(out, at);
     }
     if is_extended(&front) {
-        let more = read_full(STDIN_FILENO, &mut back);
+        let more = read_full(from, &mut back, &mut why);
         if more.failed {
-            return failed();
+            return failed(rt, &why);
         }
         if more.count < 16 || !is_known(&front, &back) {
             return bad(out, at);
         }
     }
     answer_record(
+        rt,
+        from,
         text,
         tokens,
         events,
@@ -355,25 +364,27 @@ fn turn(
 }
 
 // Writes out the bytes that wait, and says whether that went well.
-fn flush(out: &[u8], at: usize) -> bool {
+fn flush<R: Print + Eprint>(rt: &R, out: &[u8], at: usize) -> bool {
     if out.len() < at {
         return false;
     }
-    write_out(&out[0..at])
+    write_out(rt, &out[0..at])
 }
 
 // Sees to room for a record's lines.
-fn make_room(out: &[u8], at: usize) -> Step {
+fn make_room<R: Print + Eprint>(rt: &R, out: &[u8], at: usize) -> Step {
     if at < OUT - LINES {
         return Step { at, on: true };
     }
-    let on = flush(out, at);
+    let on = flush(rt, out, at);
     Step { at: 0, on }
 }
 
 // A proved loop has to end, and nothing says that the input does. So the loop counts its turns down, from a number that no run
 // uses up.
-fn turns(
+fn turns<R: Print + Eprint, F: Read>(
+    rt: &R,
+    from: &mut F,
     text: &mut [u8],
     tokens: &mut [u32],
     events: &mut [u32],
@@ -384,8 +395,8 @@ fn turns(
     let mut at = 0;
     let mut on = true;
     while left > 0 && on {
-        let t = turn(text, tokens, events, records, out, at);
-        let m = make_room(out, t.at);
+        let t = turn(rt, from, text, tokens, events, records, out, at);
+        let m = make_room(rt, out, t.at);
         at = m.at;
         on = t.on && m.on;
         left -= 1;
@@ -400,12 +411,20 @@ fn waiting() -> [u8; OUT]
     [0; OUT]
 }
 
-fn main() {
+fn main(rt: HostRuntime) {
     let mut text = [0u8; MOST];
     let mut tokens = [0u32; MOST];
     let mut events = [0u32; EVENTS];
     let mut records = [0u32; RECORDS];
     let mut out = waiting();
-    let at = turns(&mut text, &mut tokens, &mut events, &mut records, &mut out);
-    flush(&out, at);
+    let at = turns(
+        &rt,
+        &mut rt.stdin(),
+        &mut text,
+        &mut tokens,
+        &mut events,
+        &mut records,
+        &mut out,
+    );
+    flush(&rt, &out, at);
 }

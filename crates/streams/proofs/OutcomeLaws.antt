@@ -1,36 +1,37 @@
--- The cases of a call's answer, by its sign, and what is moved in each. Assumes nothing.
-use Prim.Native.Nat.{ℕ, zero, suc}
-use native.Mathlib.Omega.{arith}
-use mathlib.Core.Path.{◌≡◌, refl, sym, ap}
-use mathlib.Core.Bool.{Bool, true, false, cond}
-use lib.IntN.{ℤ, pos, negsuc}
-use lib.Signed.{lt_z, le_z}
-use borrow.Author.Tests.{leb-false}
-use Rattle.predictive.proofs.Tests.{never}
+-- The kinds of a failure, and what is moved in each case of a call's answer. Assumes nothing.
+use Rattle.std.proofs.Common.{◌≡◌, ◌≢◌, ◌≤◌, ℕ, Bool, List, length, refl, arith}
+use Rattle.std.specs.Prelude.{Result, Ok, Err}
+use Rattle.std.specs.Io.{ReadsAtMost, WritesAtMost}
+use Rattle.std.specs.declared.io.Error.{Error}
+use Rattle.std.specs.declared.io.ErrorKind.{ErrorKind}
+use Rattle.std.specs.declared.io.ErrorKind.TheVariants.{Interrupted}
 use Rattle.streams.specs.declared.Outcome.{Outcome}
-use Rattle.streams.specs.Outcomes.{outcome_of, behind}
+use Rattle.streams.specs.Outcomes.{failure_of, moved_by, behind}
 
-pub moved : (got : ℤ) (i : Bool) → lt_z (pos 0) got ≡ true → Outcome.Moved ≡ outcome_of got i
-unfolding outcome_of
-moved (pos zero) i h = never h
-moved (pos (suc n)) i h = refl
-moved (negsuc n) i h = never h
+pub again : (k : ErrorKind) → k ≡ Interrupted → failure_of k ≡ Outcome.Again
+unfolding failure_of
+again k e = rw e refl
 
-pub ended : (got : ℤ) (i : Bool) → lt_z (pos 0) got ≡ false → le_z (pos 0) got ≡ true → Outcome.Ended ≡ outcome_of got i
-unfolding outcome_of
-ended (pos zero) i h g = refl
-ended (pos (suc n)) i h g = absurd (omega (arith, leb-false 1 (suc n) h))
-ended (negsuc n) i h g = never g
-
-pub below : (got : ℤ) (i t : Bool) → le_z (pos 0) got ≡ false → i ≡ t → cond t Outcome.Again Outcome.Failed ≡ outcome_of got i
-unfolding outcome_of
-below (pos n) i t h e = absurd (omega (arith, leb-false 0 n h))
-below (negsuc n) i t h e = ap (λ (b : Bool). cond b Outcome.Again Outcome.Failed) (sym e)
+pub other_failed : (k : ErrorKind) → k ≢ Interrupted → failure_of k ≡ Outcome.Failed
+unfolding failure_of
+other_failed Interrupted ne = absurd (ne refl)
+other_failed _ ne = refl
 
 -- a call's outcome does not change how many bytes are moved
-pub behind-count : (n : ℕ) (o : Outcome) (e : Bool) → (behind n o e).count ≡ n
+pub behind_count : (n : ℕ) (o : Outcome) (e : Bool) → (behind n o e).count ≡ n
 unfolding behind
-behind-count n Outcome.Moved e = refl
-behind-count n Outcome.Ended e = refl
-behind-count n Outcome.Again e = refl
-behind-count n Outcome.Failed e = refl
+behind_count n Outcome.Moved e = refl
+behind_count n Outcome.Ended e = refl
+behind_count n Outcome.Again e = refl
+behind_count n Outcome.Failed e = refl
+
+-- no call moves more bytes than it was given
+pub written_at_most : (got : Result ℕ Error) (xs : List ℕ) → WritesAtMost got xs → moved_by got ≤ length xs
+unfolding moved_by
+written_at_most (Ok n) xs h = h
+written_at_most (Err e) xs h = omega arith
+
+pub read_at_most : (got : Result ℕ Error) (xs : List ℕ) → ReadsAtMost got xs → moved_by got ≤ length xs
+unfolding moved_by
+read_at_most (Ok n) xs h = h.0
+read_at_most (Err e) xs h = omega arith
