@@ -13,6 +13,7 @@ use Rattle.aadl.specs.Bytes.{peek}
 use Rattle.aadl.specs.Values.{digits, part}
 use Rattle.literals.proofs.Capping.{Remain, remain_all, remain_one, remain_not_below, remain_none, digits_more, digits-skip, digits_end}
 use Rattle.literals.proofs.read_digits.Goals as goal
+use Rattle.literals.proofs.read_digits.Goals.{then-b-ne95+else-base-d, else-b-ne95}
 
 pub returns-then-base-d : goal.returns-then-base-d
 returns-then-base-d c =
@@ -36,15 +37,15 @@ loop-i-preserved c =
     let ds = digits (part a.from a.to a.s.now) in
     let es = digits (part (l.i + 1) a.to a.s.now) in
     let b = peek a.s.now l.i in
-    ⊎_elim
-    (λ u.
-    let more = digits_more a.s.now l.i a.to t in-text (ne_eqb b 95 u.0.taken) ∙ ap (λ (k : ℕ). k ∷ es) (sym u.1.ensures) in
-    let r = remain_one a.base ds l.any l.n u.1.result u.3.result es p.requires.2 u.2.left u.3.ensures (subst (λ (us : List ℕ). Remain a.base ds us l.any l.n) more l.invariant.0) in
-    (subst (λ (k : ℕ). Remain a.base ds es c.if-b-ne95.any k) (sym u.5) (subst (λ (x : Bool). Remain a.base ds es x u.3.result) (sym u.4) r), search rules))
-    (λ u.
-    let r = subst (λ (us : List ℕ). Remain a.base ds us l.any l.n) (digits-skip a.s.now l.i a.to t in-text (eq-eqb b 95 u.0.left)) l.invariant.0 in
-    (subst (λ (k : ℕ). Remain a.base ds es c.if-b-ne95.any k) (sym u.2) (subst (λ (x : Bool). Remain a.base ds es x l.n) (sym u.1) r), search rules))
-    c.if-b-ne95.branch
+    elim c.if-b-ne95.branch [
+      then-b-ne95+else-base-d u ↦
+        let more = digits_more a.s.now l.i a.to t in-text (ne_eqb b 95 u.if-b-ne95.true) ∙ ap (λ (k : ℕ). k ∷ es) (sym u.digit_of-d.ensures) in
+        let r = remain_one a.base ds l.any l.n u.digit_of-d.result u.append-n.result es p.requires.2 u.if-base-d.false u.append-n.ensures (subst (λ (us : List ℕ). Remain a.base ds us l.any l.n) more l.invariant.0) in
+        (subst (λ (k : ℕ). Remain a.base ds es c.if-b-ne95.any k) (sym u.n-is) (subst (λ (x : Bool). Remain a.base ds es x u.append-n.result) (sym u.any-is) r), search rules)
+    | else-b-ne95 u ↦
+        let r = subst (λ (us : List ℕ). Remain a.base ds us l.any l.n) (digits-skip a.s.now l.i a.to t in-text (eq-eqb b 95 u.if-b-ne95.false)) l.invariant.0 in
+        (subst (λ (k : ℕ). Remain a.base ds es c.if-b-ne95.any k) (sym u.n-is) (subst (λ (x : Bool). Remain a.base ds es x l.n) (sym u.any-is) r), search rules)
+    ]
 
 pub returns : goal.returns
 returns c =

@@ -16,7 +16,6 @@ returns c =
     let at_byte = at-signed in
     let at-answer = at_byte in
     let x = at-answer.args in
-    let value-fits = at-signed.struct_told.given.1.0.1 in
-    let value = ap signed_decimal (to_z-of_z w64 x.a.value (record { sfits = value-fits })) in
+    let value = ap signed_decimal (to_z-of_z w64 x.a.value (search rules)) in
     let added = wrote_then at_byte.put_byte-end.ensures (wrote-same at-signed.put_signed-end.ensures value) in
     wrote_then (wrote_then at-answer.put_answer-end.ensures added) at-buffers.put_buffers.ensures
