@@ -1,7 +1,7 @@
 /* Gigboda for C99 and C++: the tokens of an AADL text and the parts of its numbers, the events of its property section, the tree that they
  * spell, the whole numbers that its values are, all of it in words.
  *
- * Link with target/staticlib/libcapi.a, which `rt staticlib capi` writes (x86-64):
+ * Link with target/staticlib/libcapi.a, which `tools/build library` writes (x86-64):
  *
  *     cc -std=c99 -I bindings/c FILE.c target/staticlib/libcapi.a
  *

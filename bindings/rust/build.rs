@@ -1,5 +1,5 @@
 //! Says where the static library is: in the folder that GIGBODA_LIB names, from this one on where the name is relative, or where
-//! `rt staticlib capi` writes it. Tests find that folder's name in GIGBODA_LIB_FOLDER.
+//! `tools/build library` writes it. Tests find that folder's name in GIGBODA_LIB_FOLDER.
 use std::env;
 use std::path::PathBuf;
 
@@ -11,7 +11,7 @@ fn main() {
     println!("cargo:rerun-if-changed={}", folder.join("libcapi.a").display());
     if !folder.join("libcapi.a").is_file() {
         eprintln!("There is no libcapi.a in {}.", folder.display());
-        eprintln!("`rt staticlib capi`, run in Gigboda's repository, proves it and writes it to target/staticlib;");
+        eprintln!("`tools/build library`, run in Gigboda's repository, proves it and writes it to target/staticlib;");
         eprintln!("GIGBODA_LIB names its folder if it is elsewhere.");
         std::process::exit(1);
     }

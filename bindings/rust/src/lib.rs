@@ -1,6 +1,6 @@
 //! Gigboda from Rust: the tokens of an AADL text, the events of its property section, the tree that they spell, and all of it in words. The
 //! calls are proved; this crate hands them slices and takes their words apart, which is tested. It has no dependencies but the static library
-//! that `rt staticlib capi` writes, where build.rs finds it; a Cargo.toml names it by its folder, `gigboda = { path = "bindings/rust" }`.
+//! that `tools/build library` writes, where build.rs finds it; a Cargo.toml names it by its folder, `gigboda = { path = "bindings/rust" }`.
 //!
 //! A section's tree is gone through step by step with [`Section::nodes`]; a [`Tree`] has a record for each node, from which its parent, its
 //! children and its text are found without the events. Each event knows its token ([`Pushed`]), and so does each step and each node: its line

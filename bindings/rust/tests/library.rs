@@ -13,7 +13,7 @@ fn a_missing_library_is_told() {
         .expect("cargo runs");
     let told = String::from_utf8_lossy(&built.stderr);
     assert!(!built.status.success());
-    for words in ["There is no libcapi.a in /no/such/folder.", "`rt staticlib capi`", "GIGBODA_LIB"] {
+    for words in ["There is no libcapi.a in /no/such/folder.", "`tools/build library`", "GIGBODA_LIB"] {
         assert!(told.contains(words), "{told}");
     }
 }
