@@ -7,7 +7,7 @@ use mathlib.Core.List.{List, [], ◌∷◌, ◌++◌}
 use lib.ListN.{length, get_or, drop}
 use Rattle.aadl.specs.declared.Answer.{Answer}
 use Rattle.aadl.specs.Limits.{Limits, Allowed}
-use Rattle.aadl.specs.Tokens.{tokens, StringsClosed}
+use Rattle.aadl.specs.Tokens.{StringsClosed}
 use Rattle.aadl.specs.Symbols.{symbols}
 use Rattle.aadl.specs.WordKinds.{WordsTold}
 use Rattle.aadl.specs.NumberParts.{NumbersTold}

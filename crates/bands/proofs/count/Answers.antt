@@ -1,11 +1,9 @@
 -- One word at a turn: those counted so far, and those of what remains, are all (Counted). Assumes nothing.
-use Prim.Native.Nat.{ℕ, ◌+◌, ◌-◌, ◌≤◌}
+use Prim.Native.Nat.{ℕ, ◌≤◌}
 use native.Mathlib.Omega.{arith}
 use mathlib.Core.Path.{◌≡◌, ap, ◌∙◌}
 use mathlib.Core.Bool.{Bool, true, false, cond}
-use lib.ListN.{length, drop}
 use borrow.Author.Rules.{rules}
-use Rattle.bands.specs.Bands.{tally}
 use Rattle.bands.proofs.Counted.{tally-more, tally-end}
 use Rattle.bands.proofs.count.Goals as goal
 

@@ -1,10 +1,8 @@
 -- Many words at a turn: a part that has too few of them is passed as a whole (Counted). Assumes nothing.
-use Prim.Native.Nat.{◌+◌, ◌-◌, ◌≤◌}
+use Prim.Native.Nat.{◌+◌, ◌≤◌}
 use native.Mathlib.Omega.{arith}
-use mathlib.Core.Path.{◌≡◌, sym, ◌∙◌}
-use lib.ListN.{length, drop, length-take}
-use borrow.Author.Rules.{rules}
-use Rattle.bands.specs.Bands.{nth_within}
+use mathlib.Core.Path.{sym, ◌∙◌}
+use lib.ListN.{length}
 use Rattle.bands.proofs.Counted.{nth-part}
 use Rattle.bands.proofs.find.Goals as goal
 

@@ -1,9 +1,8 @@
 -- One word at a turn: the one that is left to find stands as far on from here as it did from the start (Counted). Assumes nothing.
-use Prim.Native.Nat.{ℕ, ◌+◌, ◌-◌, ◌≤◌}
+use Prim.Native.Nat.{ℕ, ◌+◌}
 use native.Mathlib.Omega.{arith}
-use mathlib.Core.Path.{◌≡◌, refl, sym, ap, ◌∙◌}
-use mathlib.Core.Logic.{⊎_elim}
-use lib.ListN.{length, drop}
+use mathlib.Core.Path.{◌≡◌, sym, ap, ◌∙◌}
+use lib.ListN.{drop}
 use borrow.Author.Rules.{rules}
 use Rattle.bands.specs.Bands.{nth_within}
 use Rattle.bands.proofs.Counted.{nth-found, nth-passed, nth-other, nth_end}
@@ -26,12 +25,12 @@ loop-i-preserved c =
     let w = c.within in
     let on = drop (l.i + 1) a.words.now in
     elim c.if-within.branch [
-      then-within+else-left-eq0 u ↦
-        let passed = nth-passed a.b a.words.now l.left l.i (search rules) (sym w.ensures ∙ u.if-within.true) u.if-left-eq0.false in
-        (omega (arith, l.invariant.0, passed, ap (λ (n : ℕ). nth_within a.b n on) u.left-is), search rules)
-    | else-within u ↦
-        let other = nth-other a.b a.words.now l.left l.i (search rules) (sym w.ensures ∙ u.if-within.false) in
-        (omega (arith, l.invariant.0, other, ap (λ (n : ℕ). nth_within a.b n on) u.left-is), search rules)
+      | then-within+else-left-eq0 u ↦
+          let passed = nth-passed a.b a.words.now l.left l.i (search rules) (sym w.ensures ∙ u.if-within.true) u.if-left-eq0.false in
+          (omega (arith, l.invariant.0, passed, ap (λ (n : ℕ). nth_within a.b n on) u.left-is), search rules)
+      | else-within u ↦
+          let other = nth-other a.b a.words.now l.left l.i (search rules) (sym w.ensures ∙ u.if-within.false) in
+          (omega (arith, l.invariant.0, other, ap (λ (n : ℕ). nth_within a.b n on) u.left-is), search rules)
     ]
 
 pub returns : goal.returns

@@ -1,7 +1,6 @@
 -- The range is of one byte. Assumes nothing.
 use mathlib.Core.Path.{◌∙◌}
 use Rattle.classes.proofs.Chunks.{any-one}
-use borrow.Author.Rules.{rules}
 use Rattle.classes.proofs.has_byte.Goals as goal
 
 pub returns : goal.returns

@@ -1,9 +1,7 @@
 -- At once, or one byte at a turn from where the chunks end: the run from `i` on ends where the run from `from` on ends. The measure is what is left
 -- of the text. Assumes nothing.
-use Prim.Native.Nat.{◌≤◌, ◌-◌}
-use mathlib.Core.Path.{◌≡◌, sym, ap, ◌∙◌}
+use mathlib.Core.Path.{sym, ap, ◌∙◌}
 use mathlib.Core.Bool.{not}
-use lib.ListN.{length}
 use Rattle.aadl.specs.Bytes.{run_end}
 use Rattle.aadl.proofs.RunLaws.{run_more, run-stop, run-over}
 use Rattle.classes.specs.Search.{unsought}

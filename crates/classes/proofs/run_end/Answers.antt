@@ -1,13 +1,8 @@
 -- `classes::run_end` meets its contract. The loop's invariant: the run from `i` ends where the run from `from` ends. The measure is
 -- what is left of the text. Assumes nothing.
-use Prim.Native.Nat.{◌≤◌, ◌-◌, max}
-use mathlib.Core.Path.{◌≡◌, refl, sym, ◌∙◌}
+use mathlib.Core.Path.{sym, ◌∙◌}
 use native.Mathlib.Omega.{arith}
-use lib.ListN.{length}
 use borrow.Author.Rules.{rules}
-use borrow.Author.Tests.{not-true, not-false}
-use Rattle.aadl.specs.Bytes.{run_end}
-use Rattle.classes.specs.Classes.{member}
 use Rattle.aadl.proofs.RunLaws.{run_more, run-stop, run-over}
 use Rattle.classes.proofs.run_end.Goals as goal
 

@@ -1,10 +1,9 @@
 -- One chunk at a turn: the whole chunks from `i` on end where those from `from` on end. The measure is what is left of the text. Assumes
 -- nothing.
-use Prim.Native.Nat.{◌≤◌, ◌-◌, ◌+◌}
-use mathlib.Core.Path.{◌≡◌, refl, sym, ◌∙◌}
+use Prim.Native.Nat.{◌-◌, ◌+◌}
+use mathlib.Core.Path.{sym, ◌∙◌}
 use native.Mathlib.Omega.{arith}
-use lib.ListN.{length}
-use Rattle.classes.specs.Search.{sought, unsought, chunks_end}
+use Rattle.classes.specs.Search.{sought}
 use Rattle.classes.proofs.Chunks.{chunk_more, chunk_stop, chunk_over}
 use borrow.Author.Rules.{rules}
 use Rattle.classes.proofs.skip_chunks.Goals as goal

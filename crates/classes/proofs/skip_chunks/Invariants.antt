@@ -3,7 +3,7 @@
 use Prim.Native.Nat.{◌≤◌, ◌-◌}
 use mathlib.Core.Path.{◌≡◌}
 use lib.ListN.{length}
-use Rattle.classes.specs.Search.{sought, unsought, chunks_end}
+use Rattle.classes.specs.Search.{unsought, chunks_end}
 use Rattle.classes.proofs.skip_chunks.Given as goal
 
 abbrev pub invariant-loop-i : goal.invariant-loop-i

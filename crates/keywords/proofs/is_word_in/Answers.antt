@@ -1,7 +1,6 @@
 -- `keywords::is_word_in` meets its contract: words of different lengths differ, and of others the loop compares letter by letter, with
 -- `Standing` as its invariant. Assumes nothing.
-use Prim.Native.Nat.{ℕ, ◌<◌, ◌-◌}
-use native.Mathlib.Omega.{arith}
+use Prim.Native.Nat.{ℕ, ◌<◌}
 use mathlib.Core.Path.{◌≡◌, refl, sym, ap, ◌∙◌}
 use mathlib.Core.List.{List}
 use lib.ListN.{length, get_or}
@@ -9,11 +8,10 @@ use borrow.Author.Rules.{rules}
 use Rattle.aadl.specs.Words.{row}
 use Rattle.keywords.specs.Tables.{word_lengths}
 use Rattle.keywords.proofs.Columns.{start-at, length_at}
-use Rattle.keywords.proofs.Comparing.{same_length, Standing, all_same, in_letters, one_more, one-differs}
+use Rattle.keywords.proofs.Comparing.{same_length, in_letters, one_more, one-differs}
 use Rattle.keywords.proofs.is_word_in.Goals as goal
 
 length_read : {lengths : List ℕ} {n : ℕ} (i : ℕ) → i < 82 → lengths ≡ word_lengths → n ≡ get_or lengths i 0 → n ≡ length (row i).word
-
 length_read i h ls r = r ∙ ap (λ (l : List ℕ). get_or l i 0) ls ∙ length_at i h
 
 pub returns-then-word-n : goal.returns-then-word-n

@@ -1,8 +1,6 @@
 -- `keywords::is_word_in` meets its contract: words of different lengths differ, and of others the loop compares letter by letter, with
 -- `Standing` as its invariant. Assumes nothing.
 use Prim.Native.Nat.{◌-◌}
-use lib.ListN.{length}
-use Rattle.aadl.specs.Words.{row}
 use Rattle.keywords.proofs.Comparing.{Standing}
 use Rattle.keywords.proofs.is_word_in.Given as goal
 

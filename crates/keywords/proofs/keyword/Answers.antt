@@ -7,9 +7,8 @@ use mathlib.Core.Logic.{⊎_elim}
 use mathlib.Core.List.{List}
 use lib.ListN.{length, get_or}
 use lib.Dec.{ltb}
-use borrow.Author.Rules.{rules}
-use borrow.Author.Tests.{ltb-true, ltb-false}
-use Rattle.predictive.proofs.Tests.{or_l, or_r, or_cases}
+use borrow.Author.Tests.{ltb-true}
+use Rattle.predictive.proofs.Tests.{or_cases}
 use Rattle.aadl.specs.Words.{row, same}
 use Rattle.keywords.specs.Tables.{hash_of, candidate}
 use Rattle.keywords.proofs.Columns.{kind_at, slot_at}
@@ -34,7 +33,7 @@ pub is_word_in-requires : goal.is_word_in-requires
 is_word_in-requires c =
     let w = c.args.word.now in
     let e : c.wide-i.result ≡ candidate (hash_of w) =
-        c.wide-i.ensures ∙ (λ k. get_or (c.requires.slots_lent k) (c.hash.ensures k) 0) ∙ slot_at (hash_of w) (hash-in w) in
+    c.wide-i.ensures ∙ (λ k. get_or (c.requires.slots_lent k) (c.hash.ensures k) 0) ∙ slot_at (hash_of w) (hash-in w) in
     let lent = c.requires in
     (in_table w c.wide-i.result e, lent.letters_lent, lent.starts_lent, lent.lengths_lent)
 
@@ -42,14 +41,14 @@ pub bounds-kinds-i : goal.bounds-kinds-i
 bounds-kinds-i c =
     let w = c.args.word.now in
     let e : c.wide-i.result ≡ candidate (hash_of w) =
-        c.wide-i.ensures ∙ (λ k. get_or (c.requires.slots_lent k) (c.hash.ensures k) 0) ∙ slot_at (hash_of w) (hash-in w) in
+    c.wide-i.ensures ∙ (λ k. get_or (c.requires.slots_lent k) (c.hash.ensures k) 0) ∙ slot_at (hash_of w) (hash-in w) in
     in_table w c.wide-i.result e
 
 pub returns-then-is_word_in : goal.returns-then-is_word_in
 returns-then-is_word_in c =
     let w = c.args.word.now in
     let e : c.wide-i.result ≡ candidate (hash_of w) =
-        c.wide-i.ensures ∙ (λ k. get_or (c.requires.slots_lent k) (c.hash.ensures k) 0) ∙ slot_at (hash_of w) (hash-in w) in
+    c.wide-i.ensures ∙ (λ k. get_or (c.requires.slots_lent k) (c.hash.ensures k) 0) ∙ slot_at (hash_of w) (hash-in w) in
     let i = c.wide-i.result in
     let h = in_table w i e in
     c.wide32.ensures
@@ -61,5 +60,5 @@ pub returns : goal.returns
 returns c =
     let w = c.args.word.now in
     let e : c.wide-i.result ≡ candidate (hash_of w) =
-        c.wide-i.ensures ∙ (λ k. get_or (c.requires.slots_lent k) (c.hash.ensures k) 0) ∙ slot_at (hash_of w) (hash-in w) in
+    c.wide-i.ensures ∙ (λ k. get_or (c.requires.slots_lent k) (c.hash.ensures k) 0) ∙ slot_at (hash_of w) (hash-in w) in
     sym (kind-if_not_candidate w (ap (λ (k : ℕ). same (row k).word w) (sym e) ∙ sym c.is_word_in.ensures ∙ c.if-is_word_in.false))

@@ -1,5 +1,4 @@
 -- The kind ahead is the head's (Tests). Assumes nothing.
-use borrow.Author.Rules.{rules}
 use Rattle.parser.specs.Input.{input}
 use Rattle.parser.proofs.Tests.{one-is}
 use Rattle.parser.proofs.at.Goals as goal

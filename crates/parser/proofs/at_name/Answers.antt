@@ -1,7 +1,6 @@
 -- The cases of a name: an identifier, a keyword, neither (Tests). Assumes nothing.
 use mathlib.Core.Path.{refl, sym, ◌∙◌}
 use borrow.Author.Tests.{eq-eqb, ne_eqb}
-use borrow.Author.Rules.{rules}
 use Rattle.parser.specs.Input.{input}
 use Rattle.parser.proofs.Tests.{name-is}
 use Rattle.parser.proofs.at_name.Goals as goal

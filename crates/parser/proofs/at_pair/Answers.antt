@@ -2,7 +2,6 @@
 use Prim.Native.Nat.{ℕ}
 use mathlib.Core.Path.{sym, ap, ◌∙◌}
 use lib.Dec.{eqb}
-use borrow.Author.Rules.{rules}
 use Rattle.parser.specs.Input.{input}
 use Rattle.parser.proofs.Tests.{two_is}
 use Rattle.parser.proofs.at_pair.Goals as goal

@@ -2,7 +2,6 @@
 use Prim.Native.Nat.{ℕ, ◌<◌}
 use native.Mathlib.Omega.{arith}
 use mathlib.Core.Path.{sym, ap, ◌∙◌}
-use borrow.Author.Rules.{rules}
 use Rattle.predictive.specs.Events.{token}
 use Rattle.aadl.specs.Encoding.{event_word}
 use Rattle.parser.specs.Input.{input}

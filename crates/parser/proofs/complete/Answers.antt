@@ -2,7 +2,6 @@
 use Prim.Native.Nat.{ℕ}
 use mathlib.Core.Path.{refl, sym, ap, ◌∙◌}
 use mathlib.Core.List.{List}
-use borrow.Author.Rules.{rules}
 use Rattle.predictive.specs.Events.{finish}
 use Rattle.parser.specs.State.{state, push}
 use Rattle.parser.proofs.Marks.{complete-stopped, complete-goes}

@@ -1,6 +1,5 @@
 -- The symbol where the parser stands; the end's once it stopped. Assumes nothing.
 use mathlib.Core.Path.{sym, ◌∙◌}
-use borrow.Author.Rules.{rules}
 use Rattle.parser.specs.Input.{input, rest}
 use Rattle.parser.proofs.Tests.{nth-goes, nth-stopped}
 use Rattle.parser.proofs.current.Goals as goal

@@ -1,6 +1,5 @@
 -- The token where it stands, else nothing (Taking). Assumes nothing.
 use mathlib.Core.Path.{sym, ◌∙◌}
-use borrow.Author.Rules.{rules}
 use Rattle.predictive.specs.Reader.{ones, first}
 use Rattle.parser.proofs.Join.{r-opt_yes, r-opt_no}
 use Rattle.parser.proofs.Taking.{r-tok_yes}

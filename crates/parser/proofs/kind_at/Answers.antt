@@ -1,6 +1,5 @@
 -- The word ahead, whose kind a C-style literal shows too (Tests). Assumes nothing.
 use mathlib.Core.Path.{sym, ap, ◌∙◌}
-use borrow.Author.Rules.{rules}
 use Rattle.aadl.specs.Symbols.{shown}
 use Rattle.parser.specs.Input.{input, rest}
 use Rattle.parser.proofs.Tests.{nth-goes, nth-stopped, shown-ahead, shown-end}

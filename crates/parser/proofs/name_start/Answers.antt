@@ -1,10 +1,7 @@
 -- The word of a Start of that kind, where the event has a first word (Buffer). Assumes nothing.
-use native.Mathlib.Omega.{arith}
 use mathlib.Core.Path.{sym, ◌∙◌}
-use lib.ListN.{length}
-use borrow.Author.Rules.{rules}
 use borrow.Author.Tests.{ltb-false}
-use Rattle.parser.proofs.Buffer.{first-stands, named-word, named-out}
+use Rattle.parser.proofs.Buffer.{named-word, named-out}
 use Rattle.parser.proofs.name_start.Goals as goal
 
 pub returns-then-has_first : goal.returns-then-has_first

@@ -1,6 +1,5 @@
 -- The place that `skip` answers. Assumes nothing.
 use mathlib.Core.Path.{ap}
-use borrow.Author.Rules.{rules}
 use Rattle.parser.specs.declared.Place.{Place}
 use Rattle.parser.specs.Input.{new}
 use Rattle.parser.proofs.new.Goals as goal

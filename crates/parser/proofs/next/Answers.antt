@@ -1,11 +1,10 @@
 -- A turn goes past the word where it stands; before trivia there is one more: what follows that word is found from there on (Trivia).
 -- The measure is what is left. Assumes nothing.
-use Prim.Native.Nat.{ℕ, ◌+◌, ◌-◌}
-use mathlib.Core.Path.{◌≡◌, refl, sym, ap, ◌∙◌}
-use lib.ListN.{length, drop}
-use borrow.Author.Tests.{not-true, not-false}
+use Prim.Native.Nat.{ℕ, ◌+◌}
+use mathlib.Core.Path.{sym, ap, ◌∙◌}
+use lib.ListN.{drop}
 use borrow.Author.Rules.{rules}
-use Rattle.parser.specs.Input.{skip, after_one}
+use Rattle.parser.specs.Input.{skip}
 use Rattle.parser.proofs.Trivia.{skip-goes, skip-stops, after-one_is, after-one_ends}
 use Rattle.parser.proofs.next.Goals as goal
 

@@ -1,7 +1,6 @@
 -- The Start that was pushed had room, so its distance from any Start before it fits; it is stored there (Marks). Assumes nothing.
 use native.Mathlib.Omega.{arith}
 use mathlib.Core.Path.{sym, ap, ◌∙◌}
-use borrow.Author.Rules.{rules}
 use Rattle.parser.specs.State.{state}
 use Rattle.parser.proofs.Buffer.{room_most}
 use Rattle.parser.proofs.Marks.{started-fits, precede-stopped, precede-links, precede-stays}

@@ -2,7 +2,6 @@
 use native.Mathlib.Omega.{arith}
 use mathlib.Core.Path.{sym, ap₂, ◌∙◌}
 use lib.ListN.{length-set}
-use borrow.Author.Rules.{rules}
 use Rattle.aadl.specs.Encoding.{words_for}
 use Rattle.parser.specs.State.{state}
 use Rattle.parser.proofs.Buffer.{room_within, put-words}

@@ -1,8 +1,7 @@
 -- Past one trivia word at a turn: what remains is skipped to the same place (Trivia). The measure is what is left. Assumes nothing.
-use Prim.Native.Nat.{ℕ, ◌+◌, ◌-◌}
-use mathlib.Core.Path.{◌≡◌, refl, sym, ap, ◌∙◌}
-use lib.ListN.{length, drop}
-use borrow.Author.Tests.{not-true, not-false}
+use Prim.Native.Nat.{ℕ, ◌+◌}
+use mathlib.Core.Path.{sym, ap, ◌∙◌}
+use lib.ListN.{drop}
 use borrow.Author.Rules.{rules}
 use Rattle.aadl.specs.Symbols.{is_trivia}
 use Rattle.parser.specs.Input.{skip}

@@ -1,6 +1,5 @@
 -- The token where it stands, else the message (Taking). Assumes nothing.
 use mathlib.Core.Path.{sym, ◌∙◌}
-use borrow.Author.Rules.{rules}
 use Rattle.predictive.specs.Reader.{ones}
 use Rattle.parser.proofs.Taking.{r-tok_yes, r-tok_no}
 use Rattle.parser.proofs.token_or_error.Goals as goal
