@@ -1,0 +1,13 @@
+-- The tests, joined, of the kind ahead: no C-style literal and no other error is among them (Operators). Assumes nothing.
+use mathlib.Core.Path.{refl}
+use mathlib.Core.List.{[], ◌∷◌}
+use Rattle.aadl.specs.Kinds.{#◌, NOT_KW, L_PAREN, L_BRACKET, PLUS, MINUS}
+use Rattle.aadl.specs.Section.{numbers}
+use Rattle.parser.specs.Input.{input}
+use Rattle.expressions.proofs.Operators.{shown-are}
+use Rattle.expressions.proofs.at_opener.Goals as goal
+
+pub returns : goal.returns
+returns c =
+    let a = c.args in
+    shown-are (input a.text.now a.toks.now) a.p (# NOT_KW) (numbers (L_PAREN ∷ L_BRACKET ∷ PLUS ∷ MINUS ∷ [])) refl refl refl (c.kind_at-kind.ensures a.text.now)

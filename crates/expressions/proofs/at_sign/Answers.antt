@@ -1,0 +1,14 @@
+-- The tests, joined (Words of `categories`). Assumes nothing.
+use mathlib.Core.Path.{refl, sym}
+use mathlib.Core.List.{[], ◌∷◌}
+use Rattle.parser.specs.Input.{input}
+use Rattle.aadl.specs.Kinds.{#◌, PLUS, MINUS}
+use Rattle.aadl.specs.Section.{numbers}
+use Rattle.categories.proofs.Words.{joined-are}
+use Rattle.expressions.proofs.at_sign.Goals as goal
+
+pub returns : goal.returns
+returns c =
+    let at-args = c in
+    let a = at-args.args in sym
+    (joined-are (input a.text.now a.toks.now) a.p (# PLUS) (numbers (MINUS ∷ [])) refl c.current-kind.ensures refl)
