@@ -2,7 +2,6 @@
 use mathlib.Core.Path.{◌≡◌, refl, ap, ◌∙◌}
 use mathlib.Core.Bool.{Bool, false, ◌||◌}
 use lib.Dec.{eqb}
-use borrow.Author.Rules.{rules}
 use Rattle.predictive.specs.Grammar.{has}
 use Rattle.aadl.specs.Kinds.{IDENT, #◌}
 use Rattle.aadl.specs.Section.{keywords, names}

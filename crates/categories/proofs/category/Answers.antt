@@ -2,7 +2,6 @@
 use mathlib.Core.Path.{◌≡◌, refl, sym, ◌∙◌}
 use mathlib.Core.Bool.{false}
 use mathlib.Core.List.{[], ◌∷◌}
-use borrow.Author.Rules.{rules}
 use Rattle.predictive.specs.Grammar.{one, two, best, free}
 use Rattle.predictive.specs.Reader.{ones}
 use Rattle.aadl.specs.Kinds.{BUS_KW, DATA_KW, PORT_KW, EVENT_KW, ACCESS_KW, FEATURE_KW, #◌}

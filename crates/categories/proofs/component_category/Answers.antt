@@ -1,8 +1,7 @@
 -- `virtual` and what follows it; `thread` or `subprogram`, with `group` or without; one of the others; or nothing (Forms). Assumes nothing.
 use mathlib.Core.Path.{refl}
 use mathlib.Core.List.{[], ◌∷◌}
-use borrow.Author.Tests.{not-true, not-false, eq-eqb, ne_eqb}
-use borrow.Author.Rules.{rules}
+use borrow.Author.Tests.{eq-eqb, ne_eqb}
 use Rattle.predictive.specs.Grammar.{free}
 use Rattle.predictive.specs.Reader.{ones}
 use Rattle.predictive.proofs.Heads.{same, among}

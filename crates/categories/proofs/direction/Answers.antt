@@ -2,7 +2,6 @@
 use mathlib.Core.Path.{refl}
 use mathlib.Core.List.{[], ◌∷◌}
 use borrow.Author.Tests.{eq-eqb, ne_eqb}
-use borrow.Author.Rules.{rules}
 use Rattle.predictive.specs.Grammar.{free}
 use Rattle.predictive.specs.Reader.{ones}
 use Rattle.predictive.proofs.Heads.{same, among}

@@ -1,7 +1,6 @@
 -- A name where one stands, else its message. Assumes nothing.
 use Prim.Native.Nat.{ℕ}
 use mathlib.Core.Path.{sym, subst, ◌∙◌}
-use borrow.Author.Rules.{rules}
 use Rattle.predictive.specs.Grammar.{tok}
 use Rattle.aadl.specs.Section.{names}
 use Rattle.parser.specs.Input.{input}

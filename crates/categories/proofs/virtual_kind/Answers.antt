@@ -1,7 +1,6 @@
 -- `bus` or `processor` where one stands, else message 8. Assumes nothing.
 use mathlib.Core.Path.{refl}
 use mathlib.Core.List.{[], ◌∷◌}
-use borrow.Author.Rules.{rules}
 use Rattle.aadl.specs.Kinds.{BUS_KW, PROCESSOR_KW, #◌}
 use Rattle.parser.specs.Input.{input}
 use Rattle.parser.proofs.Taking.{r-tok_yes, r-tok_no}

@@ -1,11 +1,9 @@
 -- Filling words, one token at a turn (FillLaws). Assumes nothing.
-use Prim.Native.Nat.{◌-◌}
 use mathlib.Core.Path.{sym, subst, ◌∙◌}
 use native.Mathlib.Omega.{arith}
-use lib.ListN.{length}
 use Rattle.scan.specs.Places.{Bounds}
 use Rattle.scan.proofs.WordLaws.{gap_bounds}
-use Rattle.lexer.proofs.FillLaws.{Filling, filling_starts, filling_more, filling_full, filling_ends, Fitting, token-fits}
+use Rattle.lexer.proofs.FillLaws.{filling_more, filling_full, filling_ends, Fitting, token-fits}
 use borrow.Author.Rules.{rules}
 use Rattle.lexer.proofs.fill.Goals as goal
 

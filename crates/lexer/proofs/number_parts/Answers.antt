@@ -8,7 +8,7 @@ use mathlib.Core.List.{List}
 use lib.ListN.{length, take, drop, get_or, drop_of_length-le, get_or-eq_default}
 use lib.Seq.{get_or-drop}
 use lib.Dec.{ltb, eqb}
-use borrow.Author.Tests.{ltb-true, ltb-false, not-true, not-false}
+use borrow.Author.Tests.{ltb-true, ltb-false}
 use Rattle.aadl.specs.declared.Number.{Number}
 use Rattle.aadl.specs.Bytes.{peek, is_digit, run_end}
 use Rattle.aadl.specs.Tokens.{number_from, number_of, total, from_token, kind_in, length_in}
@@ -17,7 +17,6 @@ use Rattle.aadl.proofs.RunLaws.{run_more, run-end_from, run-rest}
 use Rattle.aadl.proofs.TokenBounds.{inside}
 use Rattle.aadl.proofs.NumberLaws.{told-parts_hold, no_digit_there, digit-there, no_word_there}
 use Rattle.classes.specs.Classes.{member}
-use borrow.Author.Rules.{rules}
 use Rattle.lexer.proofs.number_parts.Goals as goal
 
 -- where a sum that is cut at the text's end comes to, stands what the bytes from the sum on begin with
@@ -54,8 +53,7 @@ unfolding member
 number_from-n-requires c =
     let a = c.args in
     let digit = ap is_digit (sym c.peek-first.ensures) ∙ c.if-not-first.false in
-    let at = c.token_start-at.result in
-    (
+    let at = c.token_start-at.result in (
       end-from a.src.now a.words.now a.number at c.token_start-at.ensures digit _ c.run_end-d.ensures.0,
       omega (arith, c.run_end-d.ensures.1, here a.src.now a.words.now a.number at c.token_start-at.ensures digit),
       c.class_table-classes.ensures,
@@ -77,8 +75,8 @@ returns-then-n-kind_in-clause-parts c =
     let digit = ap is_digit (sym c.peek-first.ensures) ∙ c.if-not-first.false in
     let n = c.number_from-n.result in
     let told : number_parts a.src.now a.words.now a.number ≡ n =
-        by_tests a.src.now a.words.now a.number c.token_start-at.result c.token_start-at.ensures digit c.run_end-d.result n _ _ c.run_end-d.ensures.0
-        c.number_from-n.ensures c.kind_in.ensures c.length_in.ensures ∙ ap (λ (b : Bool). cond b n no_number) c.if-n-kind_in.true in
+    by_tests a.src.now a.words.now a.number c.token_start-at.result c.token_start-at.ensures digit c.run_end-d.result n _ _ c.run_end-d.ensures.0
+    c.number_from-n.ensures c.kind_in.ensures c.length_in.ensures ∙ ap (λ (b : Bool). cond b n no_number) c.if-n-kind_in.true in
     sym told
 
 pub returns-then-n-kind_in-clause-parts_hold : goal.returns-then-n-kind_in-clause-parts_hold
@@ -88,8 +86,8 @@ returns-then-n-kind_in-clause-parts_hold c =
     let digit = ap is_digit (sym c.peek-first.ensures) ∙ c.if-not-first.false in
     let n = c.number_from-n.result in
     let told : number_parts a.src.now a.words.now a.number ≡ n =
-        by_tests a.src.now a.words.now a.number c.token_start-at.result c.token_start-at.ensures digit c.run_end-d.result n _ _ c.run_end-d.ensures.0
-        c.number_from-n.ensures c.kind_in.ensures c.length_in.ensures ∙ ap (λ (b : Bool). cond b n no_number) c.if-n-kind_in.true in
+    by_tests a.src.now a.words.now a.number c.token_start-at.result c.token_start-at.ensures digit c.run_end-d.result n _ _ c.run_end-d.ensures.0
+    c.number_from-n.ensures c.kind_in.ensures c.length_in.ensures ∙ ap (λ (b : Bool). cond b n no_number) c.if-n-kind_in.true in
     subst (PartsHold (from_token a.src.now a.words.now a.number)) told (told-parts_hold a.src.now a.words.now a.number)
 
 pub returns-clause-parts : goal.returns-clause-parts
@@ -99,6 +97,6 @@ returns-clause-parts c =
     let digit = ap is_digit (sym c.peek-first.ensures) ∙ c.if-not-first.false in
     let n = c.number_from-n.result in
     let told : number_parts a.src.now a.words.now a.number ≡ no_number =
-        by_tests a.src.now a.words.now a.number c.token_start-at.result c.token_start-at.ensures digit c.run_end-d.result n _ _ c.run_end-d.ensures.0
-        c.number_from-n.ensures c.kind_in.ensures c.length_in.ensures ∙ ap (λ (b : Bool). cond b n no_number) c.if-n-kind_in.false in
+    by_tests a.src.now a.words.now a.number c.token_start-at.result c.token_start-at.ensures digit c.run_end-d.result n _ _ c.run_end-d.ensures.0
+    c.number_from-n.ensures c.kind_in.ensures c.length_in.ensures ∙ ap (λ (b : Bool). cond b n no_number) c.if-n-kind_in.false in
     sym told

@@ -1,7 +1,7 @@
 -- The sum of the lengths of the words before `k`, at most the cap (FirstWords); past the words there is nothing to add. The measure is what
 -- is left of the number. Assumes nothing.
 use Prim.Native.Nat.{◌≤◌, ◌-◌, ◌+◌, min}
-use mathlib.Core.Path.{◌≡◌, ap}
+use mathlib.Core.Path.{◌≡◌}
 use lib.ListN.{take}
 use Rattle.aadl.specs.Tokens.{total}
 use Rattle.lexer.proofs.FirstWords.{from}

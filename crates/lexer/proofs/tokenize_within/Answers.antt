@@ -19,7 +19,6 @@ use Rattle.aadl.proofs.Unclosed.{LastTells}
 use Rattle.lexer.specs.declared.Filled.{Filled}
 use Rattle.lexer.specs.Filling.{filled_of}
 use Rattle.lexer.proofs.FillLaws.{filled-over, filled-all, filled-place, filled-count, filled-last, all-written}
-use borrow.Author.Rules.{rules}
 use borrow.Author.Tests.{not-true, not-false}
 use Rattle.lexer.proofs.tokenize_within.Goals as goal
 

@@ -1,7 +1,7 @@
 -- All of ASCII; else one sequence above ASCII at a turn: the first ill-formed place of the rest, counted from `at`, is that of the text. The measure
 -- is what is left of the text. Assumes nothing.
 -- past ASCII the first ill-formed place stays
-use Prim.Native.Nat.{ℕ, ◌≤◌, ◌-◌, ◌+◌}
+use Prim.Native.Nat.{ℕ, ◌≤◌, ◌+◌}
 use mathlib.Core.Path.{◌≡◌, sym, ap, ◌∙◌}
 use mathlib.Core.List.{List}
 use native.Mathlib.Omega.{arith}

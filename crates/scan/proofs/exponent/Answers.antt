@@ -8,7 +8,6 @@ use Rattle.aadl.specs.Bytes.{peek, is_exponent, is_sign}
 use Rattle.aadl.specs.Tokens.{exponent_end}
 use Rattle.aadl.proofs.TokenBounds.{inside}
 use Rattle.classes.specs.Classes.{member}
-use borrow.Author.Rules.{rules}
 use Rattle.scan.proofs.exponent.Goals as goal
 
 pub overflow_add-i : goal.overflow_add-i

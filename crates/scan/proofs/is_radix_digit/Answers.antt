@@ -4,7 +4,6 @@ use mathlib.Core.Bool.{Bool, ◌&&◌, ◌||◌}
 use lib.Dec.{eqb}
 use Rattle.aadl.specs.Bytes.{within}
 use Rattle.classes.specs.Classes.{member}
-use borrow.Author.Rules.{rules}
 use Rattle.scan.proofs.is_radix_digit.Goals as goal
 
 pub returns : goal.returns

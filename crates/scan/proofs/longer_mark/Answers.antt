@@ -5,7 +5,6 @@ use mathlib.Core.List.{[], ◌∷◌}
 use Rattle.aadl.specs.Tokens.{marks}
 use Rattle.scan.specs.Inner.{longest}
 use Rattle.scan.proofs.Marks.{longer-stands, longest-first, both, all_three, not_both, not_all_three}
-use borrow.Author.Rules.{rules}
 use Rattle.scan.proofs.longer_mark.Goals as goal
 
 pub returns-then-a-b : goal.returns-then-a-b

@@ -3,7 +3,6 @@ use mathlib.Core.Path.{◌∙◌}
 use native.Mathlib.Omega.{arith}
 use lib.ListN.{drop}
 use Rattle.scan.proofs.Marks.{mark-stands, no_mark_stands}
-use borrow.Author.Rules.{rules}
 use Rattle.scan.proofs.mark_or_error.Goals as goal
 
 pub returns-then-mark-ne0 : goal.returns-then-mark-ne0

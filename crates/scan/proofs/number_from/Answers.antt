@@ -1,23 +1,20 @@
 -- What stands where the digits end tells the case of the definition (NumberCases). Each fact that more than one case uses is said once, of the
 -- place behind the test for a C-style literal. Assumes nothing.
-use Prim.Native.Nat.{ℕ, ◌+◌, ◌-◌, ◌≤◌, ◌<◌}
-use mathlib.Core.Path.{◌≡◌, refl, sym, ap, ◌∙◌}
-use mathlib.Core.Bool.{Bool, true, false, not, ◌&&◌}
+use Prim.Native.Nat.{ℕ, ◌+◌, ◌-◌, ◌<◌}
+use mathlib.Core.Path.{◌≡◌, sym, ap, ◌∙◌}
+use mathlib.Core.Bool.{◌&&◌}
 use mathlib.Core.List.{List}
 use native.Mathlib.Omega.{arith}
-use lib.ListN.{length, get_or, drop}
+use lib.ListN.{get_or, drop}
 use lib.Seq.{get_or-drop}
 use lib.Dec.{eqb}
 use borrow.Author.Tests.{eq-eqb, ne_eqb}
-use Rattle.predictive.proofs.Tests.{and_l}
 use Rattle.aadl.specs.Bytes.{peek, is_digit, is_ident_continue}
 use Rattle.aadl.specs.Tokens.{radix_digit}
 use Rattle.aadl.proofs.RunLaws.{run-end_from, run-rest}
-use Rattle.aadl.proofs.TokenBounds.{inside}
 use Rattle.cursor.specs.declared.Window.{Window}
 use Rattle.classes.specs.Classes.{member}
 use Rattle.scan.proofs.NumberCases.{Digits, digits-by_window, c_style-test, c_style-number, based-number, dotted-number, exponent-number, plain-number}
-use borrow.Author.Rules.{rules}
 use Rattle.scan.proofs.number_from.Goals as goal
 
 pub overflow_sub-run_end : goal.overflow_sub-run_end

@@ -1,9 +1,6 @@
 -- A string byte by byte (StringLaws). The measure is what is left of the text. Assumes nothing.
-use Prim.Native.Nat.{◌-◌}
-use native.Mathlib.Omega.{arith}
 use mathlib.Core.Path.{sym, ◌∙◌}
-use lib.ListN.{length}
-use Rattle.scan.proofs.StringLaws.{Passed, passed_none, passed-plain, passed-doubled, ends-closed, ends_open}
+use Rattle.scan.proofs.StringLaws.{passed-plain, passed-doubled, ends-closed, ends_open}
 use borrow.Author.Rules.{rules}
 use Rattle.scan.proofs.quoted.Goals as goal
 

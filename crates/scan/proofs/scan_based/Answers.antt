@@ -1,7 +1,6 @@
 -- The places found are those of the definition, `at` more, and so are the tests (NumberCases). Assumes nothing.
 use Prim.Native.Nat.{◌+◌, ◌-◌, ◌≤◌}
 use mathlib.Core.Path.{◌≡◌, sym, ap, ◌∙◌}
-use mathlib.Core.Logic.{⊎_elim}
 use mathlib.Core.Bool.{◌||◌, cond}
 use native.Mathlib.Omega.{arith}
 use lib.ListN.{take, drop}
@@ -15,7 +14,6 @@ use Rattle.aadl.proofs.RunLaws.{run-end_from}
 use Rattle.aadl.proofs.TokenBounds.{hash-upto, exponent_end-upto}
 use Rattle.scan.proofs.NumberCases.{based-at}
 use borrow.Author.Tests.{eq-eqb, ne_eqb}
-use borrow.Author.Rules.{rules}
 use Rattle.scan.proofs.scan_based.Goals as goal
 use Rattle.scan.proofs.scan_based.Goals.{then-closed, else-closed, then-has_byte-x, else-has_byte-x}
 

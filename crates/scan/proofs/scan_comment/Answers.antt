@@ -7,7 +7,6 @@ use Rattle.aadl.specs.Bytes.{not_lf}
 use Rattle.aadl.specs.Tokens.{token}
 use Rattle.aadl.proofs.RunLaws.{run-end_from}
 use Rattle.scan.proofs.FirstByte.{comment-token}
-use borrow.Author.Rules.{rules}
 use Rattle.scan.proofs.scan_comment.Goals as goal
 
 pub overflow_sub-next_byte : goal.overflow_sub-next_byte

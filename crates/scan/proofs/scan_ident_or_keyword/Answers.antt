@@ -5,7 +5,6 @@ use native.Mathlib.Omega.{arith}
 use Rattle.aadl.specs.Bytes.{is_ident_continue}
 use Rattle.aadl.proofs.RunLaws.{run-end_from}
 use Rattle.scan.proofs.WordLaws.{word-is}
-use borrow.Author.Rules.{rules}
 use Rattle.scan.proofs.scan_ident_or_keyword.Goals as goal
 
 pub slice_bounds-keyword-count : goal.slice_bounds-keyword-count

@@ -7,7 +7,6 @@ use Rattle.aadl.specs.Bytes.{is_grouped}
 use Rattle.aadl.specs.Tokens.{integer}
 use Rattle.aadl.proofs.RunLaws.{run-end_from}
 use Rattle.scan.proofs.NumberCases.{run-end_there}
-use borrow.Author.Rules.{rules}
 use Rattle.scan.proofs.scan_integer.Goals as goal
 
 pub overflow_sub-n : goal.overflow_sub-n

@@ -1,18 +1,12 @@
 -- A byte that stands second in no mark leaves the first byte by itself; else `--`, or the longest mark (Marks). Assumes nothing.
-use Prim.Native.Nat.{ℕ, ◌+◌}
-use mathlib.Core.Path.{◌≡◌, refl, sym, ap, ◌∙◌}
+use mathlib.Core.Path.{◌≡◌, sym, ◌∙◌}
 use mathlib.Core.Bool.{false}
 use native.Mathlib.Omega.{arith}
 use lib.Dec.{eqb}
-use borrow.Author.Tests.{eqb-true, eq-eqb, not-true}
-use Rattle.predictive.proofs.Tests.{and_l, and_r, and_false_r, or_l}
-use Rattle.aadl.specs.Bytes.{peek}
+use Rattle.predictive.proofs.Tests.{and_false_r, or_l}
 use Rattle.aadl.specs.Tokens.{marks}
-use Rattle.aadl.proofs.TokenBounds.{inside}
-use Rattle.cursor.specs.declared.Window.{Window}
 use Rattle.classes.specs.Classes.{member, in_longer, is_second}
 use Rattle.scan.proofs.Marks.{single-of_window, single-stands, longest-of_window, mark-token}
-use borrow.Author.Rules.{rules}
 use Rattle.scan.proofs.scan_mark.Goals as goal
 
 pub mark_or_error-requires : goal.mark_or_error-requires

@@ -1,22 +1,20 @@
 -- The byte behind the digits rules all cases out but one, or `number_from` goes through them (NumberCases). Assumes nothing.
-use Prim.Native.Nat.{ℕ, ◌+◌, ◌-◌, ◌≤◌, ◌<◌}
-use mathlib.Core.Path.{◌≡◌, refl, sym, ap, ◌∙◌}
+use Prim.Native.Nat.{ℕ, ◌+◌, ◌-◌, ◌<◌}
+use mathlib.Core.Path.{◌≡◌, sym, ap, ◌∙◌}
 use mathlib.Core.Bool.{Bool, true, false, not, ◌&&◌, ◌||◌}
 use mathlib.Core.List.{List}
 use native.Mathlib.Omega.{arith}
-use lib.ListN.{length, drop}
+use lib.ListN.{drop}
 use lib.Dec.{eqb}
 use borrow.Author.Tests.{eqb-true}
 use Rattle.predictive.proofs.Tests.{and_l, and_false_r}
 use Rattle.aadl.specs.Bytes.{peek, is_digit, is_ident_continue}
 use Rattle.aadl.specs.Tokens.{radix_digit, number_from, number_of}
 use Rattle.aadl.proofs.RunLaws.{run-end_from}
-use Rattle.aadl.proofs.TokenBounds.{inside}
 use Rattle.cursor.specs.declared.Window.{Window}
 use Rattle.classes.specs.Classes.{member}
 use Rattle.scan.proofs.FirstByte.{digit-run}
 use Rattle.scan.proofs.NumberCases.{Digits, digits-by_window, whole, c_style-test, dotted-number, plain-number, integer-behind}
-use borrow.Author.Rules.{rules}
 use Rattle.scan.proofs.scan_number.Goals as goal
 
 pub scan_real-requires : goal.scan_real-requires

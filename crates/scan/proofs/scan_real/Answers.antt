@@ -8,7 +8,6 @@ use Rattle.aadl.specs.Kinds.{REAL_LIT, #◌}
 use Rattle.aadl.specs.Tokens.{unbased}
 use Rattle.aadl.proofs.TokenBounds.{exponent_end-upto}
 use Rattle.scan.proofs.NumberCases.{real-at}
-use borrow.Author.Rules.{rules}
 use Rattle.scan.proofs.scan_real.Goals as goal
 
 pub overflow_sub-exponent : goal.overflow_sub-exponent

@@ -8,7 +8,6 @@ use Rattle.aadl.specs.declared.Quoted.{Quoted}
 use Rattle.aadl.proofs.TokenBounds.{quoted-within}
 use Rattle.scan.proofs.FirstByte.{string-token}
 use Rattle.scan.proofs.StringLaws.{with_quote}
-use borrow.Author.Rules.{rules}
 use Rattle.scan.proofs.scan_string.Goals as goal
 
 -- the whole is within the text

@@ -2,12 +2,10 @@
 use Prim.Native.Nat.{ℕ}
 use mathlib.Core.Path.{◌≡◌, refl, sym, ap, ◌∙◌}
 use native.Mathlib.Omega.{arith}
-use borrow.Author.Tests.{ne_eqb}
 use Rattle.aadl.specs.Tokens.{number_lit}
 use Rattle.scan.specs.Places.{Begins}
 use Rattle.scan.proofs.FirstByte.{digits-token}
 use Rattle.scan.proofs.Marks.{lone-token}
-use borrow.Author.Rules.{rules}
 use Rattle.scan.proofs.scan_token.Goals as goal
 
 pub returns-then-k : goal.returns-then-k

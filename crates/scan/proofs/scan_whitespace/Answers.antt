@@ -8,7 +8,6 @@ use Rattle.aadl.specs.Tokens.{token}
 use Rattle.aadl.proofs.RunLaws.{run-end_from}
 use Rattle.classes.specs.Classes.{member}
 use Rattle.scan.proofs.FirstByte.{white-token}
-use borrow.Author.Rules.{rules}
 use Rattle.scan.proofs.scan_whitespace.Goals as goal
 
 pub overflow_sub-run_end : goal.overflow_sub-run_end

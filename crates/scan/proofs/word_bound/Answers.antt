@@ -1,9 +1,6 @@
 -- From the end backwards: the last gap below `i` is that of the text (WordLaws). The measure is the place. Assumes nothing.
-use Prim.Native.Nat.{◌≤◌}
 use mathlib.Core.Path.{◌≡◌, refl, sym, ap, ◌∙◌}
 use native.Mathlib.Omega.{arith}
-use lib.ListN.{length}
-use borrow.Author.Tests.{not-true, not-false}
 use Rattle.classes.specs.Classes.{member}
 use Rattle.scan.specs.Places.{last_gap}
 use Rattle.scan.proofs.WordLaws.{gap_step}

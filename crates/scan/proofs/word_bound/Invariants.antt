@@ -1,6 +1,6 @@
 -- From the end backwards: the last gap below `i` is that of the text (WordLaws). The measure is the place. Assumes nothing.
 use Prim.Native.Nat.{◌≤◌}
-use mathlib.Core.Path.{◌≡◌, ap}
+use mathlib.Core.Path.{◌≡◌}
 use lib.ListN.{length}
 use Rattle.scan.specs.Places.{last_gap}
 use Rattle.scan.proofs.word_bound.Given as goal

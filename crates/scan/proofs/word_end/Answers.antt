@@ -1,12 +1,10 @@
 -- Behind the bound by the run; before it four bytes at a turn with no test for the end: the place looked at goes on (WordLaws) behind each
 -- byte of a word. The measure is what is left up to the bound. Assumes nothing.
-use Prim.Native.Nat.{◌-◌, ◌+◌}
+use Prim.Native.Nat.{◌+◌}
 use mathlib.Core.Path.{refl, sym, ◌∙◌}
 use native.Mathlib.Omega.{arith}
-use borrow.Author.Tests.{not-true, not-false}
 use Rattle.classes.specs.Classes.{member}
 use Rattle.scan.proofs.WordLaws.{Going, going-inside, going_on, going-stops}
-use borrow.Author.Rules.{rules}
 use Rattle.scan.proofs.word_end.Goals as goal
 
 pub returns-then-bound-from : goal.returns-then-bound-from

@@ -3,9 +3,8 @@ use mathlib.Core.Path.{ap, ◌∙◌}
 use mir.Syntax.{w64}
 use mir.ValLaws.{to_z-of_z}
 use Rattle.writing.specs.SignedDecimal.{signed_decimal}
-use Rattle.writing.proofs.SignLaws.{sign_and-digits, digits-alone}
+use Rattle.writing.proofs.SignLaws.{sign_and-digits}
 use Rattle.writing.proofs.WriteLaws.{wrote_then, wrote-same}
-use borrow.Author.Rules.{rules}
 use Rattle.writing.proofs.put_signed.Goals as goal
 
 pub returns-then-v-lt0 : goal.returns-then-v-lt0

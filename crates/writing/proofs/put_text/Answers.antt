@@ -1,12 +1,7 @@
 -- Byte after byte (WriteLaws): the text's first bytes are written. The measure is what is left of it. Assumes nothing.
-use Prim.Native.Nat.{◌-◌, ◌≤◌}
 use native.Mathlib.Omega.{arith}
 use native.Mathlib.Numerals.{add-one}
-use lib.ListN.{length, take}
-use lib.Seq.{take_all}
-use Rattle.writing.specs.Written.{Wrote}
-use Rattle.writing.proofs.WriteLaws.{wrote-long, wrote_none, wrote-more, wrote-same}
-use borrow.Author.Rules.{rules}
+use Rattle.writing.proofs.WriteLaws.{wrote-more}
 use Rattle.writing.proofs.put_text.Goals as goal
 
 pub loop-i-preserved : goal.loop-i-preserved

@@ -1,12 +1,12 @@
 -- Digits from the right (SpellLaws). The measure is what is left of the number; twenty digits are enough for 64 bits. Assumes nothing.
 use Prim.Native.Nat.{ℕ}
 use native.Mathlib.Omega.{arith}
-use mathlib.Core.Path.{◌≡◌, ap, ◌∙◌}
+use mathlib.Core.Path.{ap, ◌∙◌}
 use mathlib.Core.List.{List, ◌++◌, append-nil}
-use lib.ListN.{length, length-set, drop_of_length-le}
+use lib.ListN.{length-set, drop_of_length-le}
 use Rattle.aadl.specs.Listing.{decimal}
 use Rattle.writing.proofs.DecimalLaws.{decimal-length}
-use Rattle.writing.proofs.SpellLaws.{Spelling, spell-digit, spell_last, spell-room}
+use Rattle.writing.proofs.SpellLaws.{spell-digit, spell_last}
 use borrow.Author.Rules.{rules}
 use Rattle.writing.proofs.spell.Goals as goal
 
