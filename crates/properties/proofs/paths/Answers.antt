@@ -1,0 +1,41 @@
+-- A loop that reads a path, and ends behind it where no comma stands (Separated). Assumes nothing.
+use mathlib.Core.Path.{refl, sym, ◌∙◌}
+use Prim.Native.Nat.{ℕ}
+use Rattle.predictive.specs.Reader.{ones, first, null}
+use Rattle.predictive.proofs.Takes.{takes}
+use Rattle.aadl.specs.Section as G
+use Rattle.aadl.specs.Kinds.{COMMA}
+use Rattle.parser.proofs.Separated.{due_first, due_again, due_done, due_less}
+use Rattle.properties.proofs.paths.Goals as goal
+
+pub loop-q-init : goal.loop-q-init
+loop-q-init c = λ d. due_first
+
+pub returns-then-not-at : goal.returns-then-not-at
+unfolding ones first null
+returns-then-not-at c =
+    let at_at = c in
+    let at_path = at_at in
+    let at-loop = at_path in
+    λ d. due_done (at-loop.loop-q.invariant d) (at_path.containment_path-q.ensures d) (sym at_at.at.ensures ∙ c.if-not-at.true)
+
+pub loop-q-smaller : goal.loop-q-smaller
+unfolding ones first takes
+loop-q-smaller c =
+    let at-bump = c in
+    let at-if1 = at-bump in
+    let at_at = at-if1 in
+    let at_path = at_at in
+    let d : ℕ = 0 in due_less {S = G.begun COMMA} refl (at_path.containment_path-q.ensures d) (sym at_at.at.ensures ∙ at-if1.if-not-at.false)
+    (at-bump.bump-q.ensures d)
+
+pub loop-q-preserved : goal.loop-q-preserved
+unfolding ones first null takes
+loop-q-preserved c =
+    let at-bump = c in
+    let at-if1 = at-bump in
+    let at_at = at-if1 in
+    let at_path = at_at in
+    let at-loop = at_path in
+    λ d. due_again refl (at-loop.loop-q.invariant d) (at_path.containment_path-q.ensures d) (sym at_at.at.ensures ∙ at-if1.if-not-at.false)
+    (at-bump.bump-q.ensures d)
