@@ -9,6 +9,5 @@ use Rattle.expressions.proofs.at_sign.Goals as goal
 
 pub returns : goal.returns
 returns c =
-    let at-args = c in
-    let a = at-args.args in sym
+    let a = c.args in sym
     (joined-are (input a.text.now a.toks.now) a.p (# PLUS) (numbers (MINUS ∷ [])) refl c.current-kind.ensures refl)

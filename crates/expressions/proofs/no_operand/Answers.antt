@@ -17,22 +17,15 @@ use Rattle.expressions.proofs.no_operand.Goals as goal
 pub returns-then-current-eq-C_STYLE : goal.returns-then-current-eq-C_STYLE
 unfolding read step first null ones names keywords take_one take_any take_wrong
 returns-then-current-eq-C_STYLE c =
-    let at-c-style-value = c in
-    let at-if1 = at-c-style-value in
-    let at-current = at-if1 in
-    let a = at-current.args in
+    let a = c.args in
     λ d. arm_at C_STYLE (λ n ys. refl)
-    (sym (kinds-are (input a.text.now a.toks.now) a.p (C_STYLE ∷ []) refl at-current.current.ensures) ∙ rw (eq-eqb at-current.current.result C_STYLE at-if1.if-current-eq-C_STYLE.true) refl)
-    (at-c-style-value.c_style_value.ensures d) c.operand.ensures
+    (sym (kinds-are (input a.text.now a.toks.now) a.p (C_STYLE ∷ []) refl c.current.ensures) ∙ rw (eq-eqb c.current.result C_STYLE c.if-current-eq-C_STYLE.true) refl)
+    (c.c_style_value.ensures d) c.operand.ensures
 
 pub returns : goal.returns
 unfolding ones
 returns c =
-    let at-error = c in
-    let at-if1 = at-error in
-    let at-current = at-if1 in
-    let at-args = at-current in
-    let a = at-args.args in
+    let a = c.args in
     let inp = input a.text.now a.toks.now in
-    let none : stands inp (ones (C_STYLE ∷ [])) a.p ≡ false = sym (kinds-are inp a.p (C_STYLE ∷ []) refl at-current.current.ensures) ∙ rw (ne_eqb at-current.current.result C_STYLE at-if1.if-current-eq-C_STYLE.false) refl in
-    λ d. no_operand (stands-neither inp (ones beginnings) (ones (C_STYLE ∷ [])) a.p at-args.requires none) (r-fail at-error.error-p.ensures)
+    let none : stands inp (ones (C_STYLE ∷ [])) a.p ≡ false = sym (kinds-are inp a.p (C_STYLE ∷ []) refl c.current.ensures) ∙ rw (ne_eqb c.current.result C_STYLE c.if-current-eq-C_STYLE.false) refl in
+    λ d. no_operand (stands-neither inp (ones beginnings) (ones (C_STYLE ∷ [])) a.p c.requires none) (r-fail c.error-p.ensures)

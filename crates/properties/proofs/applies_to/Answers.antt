@@ -7,20 +7,12 @@ use Rattle.properties.proofs.applies_to.Goals as goal
 pub returns-then-at : goal.returns-then-at
 unfolding ones first null
 returns-then-at c =
-    let at-complete = c in
-    let at-paths = at-complete in
-    let at-expect = at-paths in
-    let at-bump = at-expect in
-    let at-start = at-bump in
-    let at-if1 = at-start in
-    let at_at = at-if1 in
-    λ d. r-opt_yes (sym at_at.at.ensures ∙ at-if1.if-at.true)
-    (r-inside at-start.start-s.ensures
-    (r-seq (at-bump.bump-p.ensures d) (r-seq (at-expect.expect-p.ensures d) (at-paths.paths-p.ensures d)))
-    at-complete.complete-c.ensures)
+    λ d. r-opt_yes (sym c.at.ensures ∙ c.if-at.true)
+    (r-inside c.start-s.ensures
+    (r-seq (c.bump-p.ensures d) (r-seq (c.expect-p.ensures d) (c.paths-p.ensures d)))
+    c.complete-c.ensures)
 
 pub returns : goal.returns
 unfolding ones first null
 returns c =
-    let at_at = c in
-    λ d. r-opt_no (sym at_at.at.ensures ∙ c.if-at.false)
+    λ d. r-opt_no (sym c.at.ensures ∙ c.if-at.false)

@@ -10,20 +10,12 @@ use Rattle.properties.proofs.arrow.Goals as goal
 
 pub returns-then-kind : goal.returns-then-kind
 returns-then-kind c =
-    let at-bump-any = c in
-    let at-if1 = at-bump-any in
-    let at-current = at-if1 in
-    let at-args = at-current in
-    let a = at-args.args in λ d. r-tok_yes
-    (joined-are (input a.text.now a.toks.now) a.p (# FAT_ARROW) (numbers (PLUS_ARROW ∷ [])) refl at-current.current-kind.ensures
-    at-if1.if-kind.true) (at-bump-any.bump_any.ensures d)
+    let a = c.args in λ d. r-tok_yes
+    (joined-are (input a.text.now a.toks.now) a.p (# FAT_ARROW) (numbers (PLUS_ARROW ∷ [])) refl c.current-kind.ensures
+    c.if-kind.true) (c.bump_any.ensures d)
 
 pub returns : goal.returns
 returns c =
-    let at-error = c in
-    let at-if1 = at-error in
-    let at-current = at-if1 in
-    let at-args = at-current in
-    let a = at-args.args in λ d. r-tok_no
-    (joined-are (input a.text.now a.toks.now) a.p (# FAT_ARROW) (numbers (PLUS_ARROW ∷ [])) refl at-current.current-kind.ensures
-    at-if1.if-kind.false) at-error.error.ensures
+    let a = c.args in λ d. r-tok_no
+    (joined-are (input a.text.now a.toks.now) a.p (# FAT_ARROW) (numbers (PLUS_ARROW ∷ [])) refl c.current-kind.ensures
+    c.if-kind.false) c.error.ensures

@@ -7,7 +7,4 @@ use Rattle.properties.proofs.first_name.Goals as goal
 pub returns-then-at : goal.returns-then-at
 unfolding ones first
 returns-then-at c =
-    let at-bump = c in
-    let at-if1 = at-bump in
-    let at_at = at-if1 in
-    λ d. r-left (sym at_at.at.ensures ∙ at-if1.if-at.true) (at-bump.bump.ensures d)
+    λ d. r-left (sym c.at.ensures ∙ c.if-at.true) (c.bump.ensures d)

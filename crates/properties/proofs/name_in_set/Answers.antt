@@ -7,14 +7,9 @@ use Rattle.properties.proofs.name_in_set.Goals as goal
 pub returns-then-at : goal.returns-then-at
 unfolding ones first null
 returns-then-at c =
-    let at-property-name = c in
-    let at-bump = at-property-name in
-    let at-if1 = at-bump in
-    let at_at = at-if1 in
-    λ d. r-opt_yes (sym at_at.at.ensures ∙ at-if1.if-at.true) (r-seq (at-bump.bump-p.ensures d) (at-property-name.property_name.ensures d))
+    λ d. r-opt_yes (sym c.at.ensures ∙ c.if-at.true) (r-seq (c.bump-p.ensures d) (c.property_name.ensures d))
 
 pub returns : goal.returns
 unfolding ones first null
 returns c =
-    let at_at = c in
-    λ d. r-opt_no (sym at_at.at.ensures ∙ c.if-at.false)
+    λ d. r-opt_no (sym c.at.ensures ∙ c.if-at.false)

@@ -14,28 +14,16 @@ loop-q-init c = λ d. due_first
 pub returns-then-not-at : goal.returns-then-not-at
 unfolding ones first null
 returns-then-not-at c =
-    let at_at = c in
-    let at_path = at_at in
-    let at-loop = at_path in
-    λ d. due_done (at-loop.loop-q.invariant d) (at_path.containment_path-q.ensures d) (sym at_at.at.ensures ∙ c.if-not-at.true)
+    λ d. due_done (c.loop-q.invariant d) (c.containment_path-q.ensures d) (sym c.at.ensures ∙ c.if-not-at.true)
 
 pub loop-q-smaller : goal.loop-q-smaller
 unfolding ones first takes
 loop-q-smaller c =
-    let at-bump = c in
-    let at-if1 = at-bump in
-    let at_at = at-if1 in
-    let at_path = at_at in
-    let d : ℕ = 0 in due_less {S = G.begun COMMA} refl (at_path.containment_path-q.ensures d) (sym at_at.at.ensures ∙ at-if1.if-not-at.false)
-    (at-bump.bump-q.ensures d)
+    let d : ℕ = 0 in due_less {S = G.begun COMMA} refl (c.containment_path-q.ensures d) (sym c.at.ensures ∙ c.if-not-at.false)
+    (c.bump-q.ensures d)
 
 pub loop-q-preserved : goal.loop-q-preserved
 unfolding ones first null takes
 loop-q-preserved c =
-    let at-bump = c in
-    let at-if1 = at-bump in
-    let at_at = at-if1 in
-    let at_path = at_at in
-    let at-loop = at_path in
-    λ d. due_again refl (at-loop.loop-q.invariant d) (at_path.containment_path-q.ensures d) (sym at_at.at.ensures ∙ at-if1.if-not-at.false)
-    (at-bump.bump-q.ensures d)
+    λ d. due_again refl (c.loop-q.invariant d) (c.containment_path-q.ensures d) (sym c.at.ensures ∙ c.if-not-at.false)
+    (c.bump-q.ensures d)

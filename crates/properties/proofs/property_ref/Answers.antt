@@ -4,9 +4,5 @@ use Rattle.properties.proofs.property_ref.Goals as goal
 
 pub returns : goal.returns
 returns c =
-    let at-complete = c in
-    let at-name-in-set = at-complete in
-    let at-first-name = at-name-in-set in
-    let at-start = at-first-name in
-    λ d. r-inside at-start.start-s.ensures (r-seq (at-first-name.first_name-p.ensures d) (at-name-in-set.name_in_set-p.ensures d))
-    at-complete.complete-c.ensures
+    λ d. r-inside c.start-s.ensures (r-seq (c.first_name-p.ensures d) (c.name_in_set-p.ensures d))
+    c.complete-c.ensures

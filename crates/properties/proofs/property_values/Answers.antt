@@ -14,26 +14,16 @@ loop-v-init c = due_first
 pub returns-then-not-at : goal.returns-then-not-at
 unfolding ones first null
 returns-then-not-at c =
-    let at_at = c in
-    let at_value = at_at in
-    let due = at_value.loop-v.invariant in
-    due_done due (at_level due.left at_value.property_value-v.ensures) (sym at_at.at.ensures ∙ c.if-not-at.true)
+    let due = c.loop-v.invariant in
+    due_done due (at_level due.left c.property_value-v.ensures) (sym c.at.ensures ∙ c.if-not-at.true)
 
 pub loop-v-smaller : goal.loop-v-smaller
 unfolding ones first takes
 loop-v-smaller c =
-    let at-bump = c in
-    let at-if1 = at-bump in
-    let at_at = at-if1 in
-    let at_value = at_at in
-    due_less {S = G.begun COMMA} refl at_value.property_value-v.ensures (sym at_at.at.ensures ∙ at-if1.if-not-at.false) (at-bump.bump-v.ensures _)
+    due_less {S = G.begun COMMA} refl c.property_value-v.ensures (sym c.at.ensures ∙ c.if-not-at.false) (c.bump-v.ensures _)
 
 pub loop-v-preserved : goal.loop-v-preserved
 unfolding ones first null takes
 loop-v-preserved c =
-    let at-bump = c in
-    let at-if1 = at-bump in
-    let at_at = at-if1 in
-    let at_value = at_at in
-    let due = at_value.loop-v.invariant in
-    due_again refl due (at_level due.left at_value.property_value-v.ensures) (sym at_at.at.ensures ∙ at-if1.if-not-at.false) (at-bump.bump-v.ensures _)
+    let due = c.loop-v.invariant in
+    due_again refl due (at_level due.left c.property_value-v.ensures) (sym c.at.ensures ∙ c.if-not-at.false) (c.bump-v.ensures _)
