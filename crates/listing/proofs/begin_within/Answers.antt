@@ -5,7 +5,6 @@ use mathlib.Core.Bool.{false}
 use mathlib.Core.List.{List}
 use Prim.Native.Nat.{ℕ}
 use lib.ListN.{length, take}
-use lib.Seq.{length-take-le}
 use Rattle.aadl.specs.Answers.{section_answer}
 use Rattle.aadl.specs.Promises.{SectionCalled}
 use Rattle.aadl.specs.Listing.{lent_tokens, lent_events, listing}
@@ -15,7 +14,6 @@ use Rattle.aadl.proofs.CallsRead.{section-answered}
 use Rattle.listing.specs.Positions.{begin}
 use Rattle.listing.specs.Pieces.{joined, left}
 use Rattle.listing.proofs.EndToEnd.{answer-lines, call_listed, first-bytes_listed}
-use borrow.Author.Rules.{rules}
 use Rattle.listing.proofs.begin_within.Goals as goal
 
 pub returns : goal.returns

@@ -1,7 +1,6 @@
 -- A new parser, and the spot of its byte (PositionLaws). Assumes nothing.
 use Rattle.parser.specs.Input.{input}
 use Rattle.listing.proofs.PositionLaws.{begin-is}
-use borrow.Author.Rules.{rules}
 use Rattle.listing.proofs.first_position.Goals as goal
 
 pub returns : goal.returns

@@ -1,9 +1,8 @@
 -- The bytes that were read and the words that are counted are parts of what is lent; of these the lines are left (PieceLaws). Assumes nothing.
 use Prim.Native.Nat.{min}
 use native.Mathlib.Omega.{arith}
-use mathlib.Core.Path.{◌≡◌, sym, ap}
+use mathlib.Core.Path.{◌≡◌, ap}
 use lib.ListN.{drop}
-use lib.Seq.{length-take-le}
 use Rattle.aadl.specs.Encoding.{words_for, first_words}
 use Rattle.aadl.specs.Listing.{lent_events}
 use Rattle.writing.proofs.LeastLaws.{take_least}
@@ -11,7 +10,6 @@ use Rattle.parser.specs.Input.{input}
 use Rattle.listing.specs.Positions.{lines_from}
 use Rattle.listing.specs.Pieces.{left}
 use Rattle.listing.proofs.PieceLaws.{gave-same}
-use borrow.Author.Rules.{rules}
 use Rattle.listing.proofs.more.Goals as goal
 
 pub returns : goal.returns

@@ -1,11 +1,9 @@
 -- Begun, it goes on; else the first line comes before the others, if there is room for a line (PieceLaws). Assumes nothing.
-use native.Mathlib.Nat.{sub-zero}
 use native.Mathlib.Omega.{arith}
 use mathlib.Core.Path.{refl}
-use lib.ListN.{length}
 use Rattle.listing_lines.specs.Lines.{first_line}
 use Rattle.listing.specs.Pieces.{left}
-use Rattle.listing.proofs.PieceLaws.{left-begun, left-whole, gave-same, gave-room, gave_after, gave-none}
+use Rattle.listing.proofs.PieceLaws.{left-whole, gave-same, gave_after, gave-none}
 use borrow.Author.Rules.{rules}
 use Rattle.listing.proofs.next_piece.Goals as goal
 

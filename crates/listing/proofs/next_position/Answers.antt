@@ -4,7 +4,6 @@ use mathlib.Core.List.{[]}
 use Rattle.parser.specs.Input.{input}
 use Rattle.parser.specs.State.{State}
 use Rattle.listing.proofs.PositionLaws.{step-token, step_other}
-use borrow.Author.Rules.{rules}
 use Rattle.listing.proofs.next_position.Goals as goal
 
 pub returns-then-class_in-eq1 : goal.returns-then-class_in-eq1

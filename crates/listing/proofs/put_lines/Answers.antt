@@ -1,18 +1,16 @@
 -- A line at each turn (PieceLaws), by an event's first word. The measure is how many events are left. Assumes nothing.
-use Prim.Native.Nat.{ℕ, ◌-◌, ◌≤◌, ◌<◌}
+use Prim.Native.Nat.{ℕ, ◌≤◌, ◌<◌}
 use native.Mathlib.Omega.{arith}
 use native.Mathlib.Numerals.{add-one}
 use mathlib.Core.Path.{sym, ap, subst, ◌∙◌}
 use mathlib.Core.List.{◌∷◌}
 use lib.ListN.{length, drop, get_or}
-use borrow.Author.Tests.{leb-true, leb-false}
 use Rattle.aadl.specs.Encoding.{first_words}
 use Rattle.parser.specs.Input.{input}
 use Rattle.writing.specs.Written.{Wrote}
 use Rattle.listing_lines.specs.Lines.{line_room, line_of}
 use Rattle.listing.specs.Positions.{step, lines_from}
-use Rattle.listing.proofs.PieceLaws.{Filling, filling_starts, filling_more, filling_full, filling_whole, lines_more, lines_none}
-use borrow.Author.Rules.{rules}
+use Rattle.listing.proofs.PieceLaws.{filling_more, filling_full, filling_whole, lines_more, lines_none}
 use Rattle.listing.proofs.put_lines.Goals as goal
 
 pub loop-i-preserved : goal.loop-i-preserved

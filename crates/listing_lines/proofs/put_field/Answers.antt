@@ -1,6 +1,5 @@
 -- A number, and one byte more (writing, WriteLaws). Assumes nothing.
 use Rattle.writing.proofs.WriteLaws.{wrote_then}
-use borrow.Author.Rules.{rules}
 use Rattle.listing_lines.proofs.put_field.Goals as goal
 
 pub returns : goal.returns

@@ -5,7 +5,6 @@ use lib.ListN.{length}
 use Rattle.writing.proofs.WriteLaws.{wrote-same}
 use Rattle.listing_lines.specs.Lines.{header}
 use Rattle.listing_lines.proofs.LineLaws.{first-is_header, first-is_refusal, header-fits}
-use borrow.Author.Rules.{rules}
 use Rattle.listing_lines.proofs.put_first.Goals as goal
 
 pub returns-then-a-eq0 : goal.returns-then-a-eq0

@@ -3,9 +3,8 @@ use mathlib.Core.Path.{ap}
 use mathlib.Core.List.{[], ◌∷◌}
 use native.Mathlib.Omega.{arith}
 use lib.ListN.{length}
-use Rattle.writing.proofs.WriteLaws.{wrote-long, wrote_then, wrote-same}
+use Rattle.writing.proofs.WriteLaws.{wrote_then, wrote-same}
 use Rattle.listing_lines.proofs.LineLaws.{line-parts, line-fits}
-use borrow.Author.Rules.{rules}
 use Rattle.listing_lines.proofs.put_line.Goals as goal
 
 pub returns : goal.returns

@@ -8,12 +8,10 @@ use mathlib.Core.List.{List}
 use mathlib.Core.Option.{none}
 use lib.ListN.{length, drop, length-drop}
 use lib.Dec.{leb}
-use borrow.Author.Tests.{eq-eqb, ne_eqb}
-use borrow.Author.Rules.{rules}
+use borrow.Author.Tests.{ne_eqb}
 use Rattle.predictive.proofs.Tests.{and_l}
 use Rattle.aadl.specs.declared.Number.{Number}
 use Rattle.aadl.specs.Values.{digits, number_by, in_base, in_written_base, part, number_by_parts}
-use Rattle.aadl.proofs.Bools.{bounds}
 use Rattle.int64.specs.Integers.{most}
 use Rattle.aadl.specs.NumberParts.{PartsHold}
 use Rattle.literals.specs.declared.Digits.{Digits}

@@ -1,7 +1,6 @@
 -- The digits that were read, as a literal (Capping). Assumes nothing.
 use mathlib.Core.Path.{ap, subst}
 use mathlib.Core.List.{List}
-use borrow.Author.Rules.{rules}
 use Prim.Native.Nat.{ℕ}
 use Rattle.aadl.specs.Values.{digits}
 use Rattle.literals.specs.Capped.{DigitsOf}

@@ -4,7 +4,6 @@ use native.Mathlib.Omega.{arith}
 use mathlib.Core.Path.{◌≡◌, refl, sym, ap, subst, ◌∙◌}
 use lib.ListN.{drop, length-drop}
 use lib.Seq.{get_or-drop}
-use borrow.Author.Rules.{rules}
 use Rattle.aadl.specs.declared.Number.{Number}
 use Rattle.aadl.specs.Bytes.{peek, is_digit}
 use Rattle.aadl.specs.Tokens.{number_from, number_of}

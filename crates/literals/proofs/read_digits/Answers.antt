@@ -1,9 +1,8 @@
 -- One byte at a turn: an underscore is passed, a digit below the base makes the number longer, any other digit ends the reading (Capping).
 -- Assumes nothing.
-use Prim.Native.Nat.{ℕ, ◌+◌, ◌-◌, ◌≤◌, ◌<◌}
+use Prim.Native.Nat.{ℕ, ◌+◌, ◌<◌}
 use native.Mathlib.Omega.{arith}
 use mathlib.Core.Path.{sym, ap, subst, ◌∙◌}
-use mathlib.Core.Logic.{⊎_elim}
 use mathlib.Core.Bool.{Bool}
 use mathlib.Core.List.{List, ◌∷◌}
 use lib.ListN.{length}
@@ -11,7 +10,7 @@ use borrow.Author.Tests.{eq-eqb, ne_eqb}
 use borrow.Author.Rules.{rules}
 use Rattle.aadl.specs.Bytes.{peek}
 use Rattle.aadl.specs.Values.{digits, part}
-use Rattle.literals.proofs.Capping.{Remain, remain_all, remain_one, remain_not_below, remain_none, digits_more, digits-skip, digits_end}
+use Rattle.literals.proofs.Capping.{Remain, remain_one, remain_not_below, remain_none, digits_more, digits-skip, digits_end}
 use Rattle.literals.proofs.read_digits.Goals as goal
 use Rattle.literals.proofs.read_digits.Goals.{then-b-ne95+else-base-d, else-b-ne95}
 
@@ -38,13 +37,13 @@ loop-i-preserved c =
     let es = digits (part (l.i + 1) a.to a.s.now) in
     let b = peek a.s.now l.i in
     elim c.if-b-ne95.branch [
-      then-b-ne95+else-base-d u ↦
-        let more = digits_more a.s.now l.i a.to t in-text (ne_eqb b 95 u.if-b-ne95.true) ∙ ap (λ (k : ℕ). k ∷ es) (sym u.digit_of-d.ensures) in
-        let r = remain_one a.base ds l.any l.n u.digit_of-d.result u.append-n.result es p.requires.2 u.if-base-d.false u.append-n.ensures (subst (λ (us : List ℕ). Remain a.base ds us l.any l.n) more l.invariant.0) in
-        (subst (λ (k : ℕ). Remain a.base ds es c.if-b-ne95.any k) (sym u.n-is) (subst (λ (x : Bool). Remain a.base ds es x u.append-n.result) (sym u.any-is) r), search rules)
-    | else-b-ne95 u ↦
-        let r = subst (λ (us : List ℕ). Remain a.base ds us l.any l.n) (digits-skip a.s.now l.i a.to t in-text (eq-eqb b 95 u.if-b-ne95.false)) l.invariant.0 in
-        (subst (λ (k : ℕ). Remain a.base ds es c.if-b-ne95.any k) (sym u.n-is) (subst (λ (x : Bool). Remain a.base ds es x l.n) (sym u.any-is) r), search rules)
+      | then-b-ne95+else-base-d u ↦
+          let more = digits_more a.s.now l.i a.to t in-text (ne_eqb b 95 u.if-b-ne95.true) ∙ ap (λ (k : ℕ). k ∷ es) (sym u.digit_of-d.ensures) in
+          let r = remain_one a.base ds l.any l.n u.digit_of-d.result u.append-n.result es p.requires.2 u.if-base-d.false u.append-n.ensures (subst (λ (us : List ℕ). Remain a.base ds us l.any l.n) more l.invariant.0) in
+          (subst (λ (k : ℕ). Remain a.base ds es c.if-b-ne95.any k) (sym u.n-is) (subst (λ (x : Bool). Remain a.base ds es x u.append-n.result) (sym u.any-is) r), search rules)
+      | else-b-ne95 u ↦
+          let r = subst (λ (us : List ℕ). Remain a.base ds us l.any l.n) (digits-skip a.s.now l.i a.to t in-text (eq-eqb b 95 u.if-b-ne95.false)) l.invariant.0 in
+          (subst (λ (k : ℕ). Remain a.base ds es c.if-b-ne95.any k) (sym u.n-is) (subst (λ (x : Bool). Remain a.base ds es x l.n) (sym u.any-is) r), search rules)
     ]
 
 pub returns : goal.returns

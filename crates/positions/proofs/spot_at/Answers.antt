@@ -1,8 +1,7 @@
 -- A walk to the place, one byte at a turn (SpotLaws). The measure is what is left of it. Assumes nothing.
-use Prim.Native.Nat.{◌-◌}
 use mathlib.Core.Path.{refl}
 use native.Mathlib.Omega.{arith}
-use Rattle.positions.proofs.SpotLaws.{Walking, walking_starts, walking_more, walking_ends}
+use Rattle.positions.proofs.SpotLaws.{walking_starts, walking_more, walking_ends}
 use borrow.Author.Rules.{rules}
 use Rattle.positions.proofs.spot_at.Goals as goal
 

@@ -10,7 +10,6 @@ use Rattle.aadl.specs.Encoding.{words_for}
 use Rattle.writing.proofs.WriteLaws.{wrote_then, wrote-same}
 use Rattle.replay_lines.specs.Records.{line, word_lines}
 use Rattle.replay_lines.proofs.CountLaws.{take_alike, rest-alike}
-use borrow.Author.Rules.{rules}
 use Rattle.replay_lines.proofs.put_buffers.Goals as goal
 
 -- ?? 14 fillings, 11 needs ['least-used-requires', 'overflow_mul-used', 'put_byte-end-requires', 'put_line-end-requires', 'put_line-end-requires-2', 'rest_of-requires', 'rest_of-requires-2', 'slice_bounds-put_row-end-2', 'put_row-requires', 'shape_of-out', 'returns']

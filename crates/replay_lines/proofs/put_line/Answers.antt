@@ -1,11 +1,8 @@
 -- The name, the words that are used (writing, LeastLaws), and LF (writing, WriteLaws). Assumes nothing.
-use native.Mathlib.Omega.{arith}
-use mathlib.Core.Path.{refl, sym, ap}
-use lib.Seq.{length-take-le}
+use mathlib.Core.Path.{refl, ap}
 use Rattle.writing.proofs.LeastLaws.{take_least}
 use Rattle.writing.proofs.WriteLaws.{wrote_then, wrote-same}
 use Rattle.replay_lines.specs.Records.{line, spaced}
-use borrow.Author.Rules.{rules}
 use Rattle.replay_lines.proofs.put_line.Goals as goal
 
 pub returns : goal.returns

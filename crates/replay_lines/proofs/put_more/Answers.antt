@@ -5,7 +5,6 @@ use mathlib.Core.List.{[], ◌∷◌}
 use Rattle.aadl.specs.Words.{bytes}
 use Rattle.writing.proofs.WriteLaws.{wrote_then, wrote-same}
 use Rattle.replay_lines.specs.Records.{line, more_lines}
-use borrow.Author.Rules.{rules}
 use Rattle.replay_lines.proofs.put_more.Goals as goal
 
 -- ?? 8 fillings, 6 needs ['put_line-end-requires', 'rest_of-requires', 'slice_bounds-put_row-end-2', 'put_row-requires', 'shape_of-out', 'returns']

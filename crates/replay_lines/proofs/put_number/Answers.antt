@@ -1,6 +1,5 @@
 -- One byte, and a number (writing, WriteLaws). Assumes nothing.
 use Rattle.writing.proofs.WriteLaws.{wrote_then}
-use borrow.Author.Rules.{rules}
 use Rattle.replay_lines.proofs.put_number.Goals as goal
 
 pub returns : goal.returns

@@ -1,15 +1,7 @@
 -- Number after number (SpacedLaws), as in `put_words`. Assumes nothing.
-use Prim.Native.Nat.{◌-◌, ◌≤◌}
 use native.Mathlib.Omega.{arith}
 use native.Mathlib.Numerals.{add-one}
-use mathlib.Core.Path.{ap}
-use lib.ListN.{length, take}
-use lib.Seq.{take_all}
-use Rattle.writing.specs.Written.{Wrote}
-use Rattle.writing.proofs.WriteLaws.{wrote-long, wrote_none, wrote-same}
-use Rattle.replay_lines.specs.Records.{spaced}
 use Rattle.replay_lines.proofs.SpacedLaws.{spaced-more}
-use borrow.Author.Rules.{rules}
 use Rattle.replay_lines.proofs.put_numbers.Goals as goal
 
 pub loop-i-preserved : goal.loop-i-preserved

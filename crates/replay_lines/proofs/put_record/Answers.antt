@@ -3,7 +3,6 @@ use mathlib.Core.Path.{sym}
 use mathlib.Core.List.{append-nil}
 use Rattle.writing.proofs.WriteLaws.{wrote_then, wrote-same}
 use Rattle.replay_lines.specs.Records.{named_answer, record_lines}
-use borrow.Author.Rules.{rules}
 use Rattle.replay_lines.proofs.put_record.Goals as goal
 
 pub returns : goal.returns

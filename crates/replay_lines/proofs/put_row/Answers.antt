@@ -1,7 +1,6 @@
 -- The name, the numbers, and LF (writing, WriteLaws). Assumes nothing.
 use Rattle.writing.proofs.WriteLaws.{wrote_then}
 use Rattle.replay_lines.specs.Records.{line}
-use borrow.Author.Rules.{rules}
 use Rattle.replay_lines.proofs.put_row.Goals as goal
 
 pub returns : goal.returns

@@ -3,7 +3,6 @@
 use Rattle.writing.proofs.WriteLaws.{wrote_then, wrote-same}
 use Rattle.replay_lines.specs.Records.{record_lines, tree_lines}
 use Rattle.replay_lines.proofs.CountLaws.{more_within}
-use borrow.Author.Rules.{rules}
 use Rattle.replay_lines.proofs.put_tree.Goals as goal
 
 pub returns : goal.returns

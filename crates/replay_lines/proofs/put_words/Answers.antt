@@ -1,17 +1,12 @@
 -- Word after word (SpacedLaws): the first words are written. The measure is what is left of them. Assumes nothing.
-use Prim.Native.Nat.{ℕ, ◌-◌, ◌≤◌}
+use Prim.Native.Nat.{ℕ}
 use native.Mathlib.Omega.{arith}
 use native.Mathlib.Numerals.{add-one}
 use mathlib.Core.Path.{ap}
 use mathlib.Core.List.{◌∷◌}
-use lib.ListN.{length, take}
-use lib.Seq.{take_all}
 use Rattle.aadl.specs.Listing.{decimal}
-use Rattle.writing.specs.Written.{Wrote}
-use Rattle.writing.proofs.WriteLaws.{wrote-long, wrote_none, wrote-same}
-use Rattle.replay_lines.specs.Records.{spaced}
+use Rattle.writing.proofs.WriteLaws.{wrote-same}
 use Rattle.replay_lines.proofs.SpacedLaws.{spaced-more}
-use borrow.Author.Rules.{rules}
 use Rattle.replay_lines.proofs.put_words.Goals as goal
 
 pub loop-i-preserved : goal.loop-i-preserved

@@ -1,7 +1,6 @@
 -- After a refusal the zeros count, else what is kept behind the used words (CountLaws). Assumes nothing.
 use mathlib.Core.Path.{◌∙◌}
 use Rattle.replay_lines.proofs.CountLaws.{rest-refused, rest-kept}
-use borrow.Author.Rules.{rules}
 use Rattle.replay_lines.proofs.rest_of.Goals as goal
 
 pub returns-then-number-ne0 : goal.returns-then-number-ne0

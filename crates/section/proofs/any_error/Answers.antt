@@ -1,15 +1,13 @@
 -- One event at a turn: what was found, or is found from `i` on, is what is found in all; the events that are counted are told by as many
 -- first words. Assumes nothing.
-use Prim.Native.Nat.{ℕ, ◌+◌, ◌-◌, ◌<◌}
-use mathlib.Core.Path.{◌≡◌, sym, ap, ◌∙◌}
+use Prim.Native.Nat.{ℕ, ◌+◌, ◌<◌}
+use mathlib.Core.Path.{sym, ap, ◌∙◌}
 use mathlib.Core.Bool.{◌&&◌, ◌||◌}
 use native.Mathlib.Omega.{arith}
-use lib.ListN.{take}
 use lib.Dec.{leb, ltb}
-use borrow.Author.Rules.{rules}
 use Rattle.aadl.specs.Encoding.{class_in, first_words}
 use Rattle.aadl.proofs.EventPairs.{first_words-take}
-use Rattle.lexer.proofs.FirstWords.{from, from_start}
+use Rattle.lexer.proofs.FirstWords.{from}
 use Rattle.section.proofs.CleanLaws.{both_below, erring-words, error-from, error-past}
 use Rattle.section.proofs.any_error.Goals as goal
 

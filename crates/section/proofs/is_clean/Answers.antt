@@ -1,7 +1,6 @@
 -- The two counts are the definition's. Assumes nothing.
 use mathlib.Core.Bool.{not, ◌&&◌}
 use lib.Dec.{eqb}
-use borrow.Author.Rules.{rules}
 use Rattle.aadl.specs.Demand.{is_clean}
 use Rattle.section.proofs.is_clean.Goals as goal
 

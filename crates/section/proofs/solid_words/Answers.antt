@@ -1,15 +1,11 @@
 -- One word at a turn: the words counted so far, and those of what remains, are all (CleanLaws). The measure is what is left. Assumes nothing.
-use Prim.Native.Nat.{ℕ, ◌+◌, ◌-◌, ◌≤◌, ◌<◌}
+use Prim.Native.Nat.{ℕ, ◌≤◌, ◌<◌}
 use native.Mathlib.Omega.{arith}
-use native.Mathlib.Nat.{zero-add}
 use mathlib.Core.Path.{◌≡◌, ap, ◌∙◌}
 use mathlib.Core.Bool.{Bool, true, false, cond}
-use lib.ListN.{length, take}
-use borrow.Author.Rules.{rules}
+use lib.ListN.{length}
 use Rattle.aadl.specs.Symbols.{is_trivia}
-use Rattle.aadl.specs.Demand.{solid_words}
-use Rattle.lexer.proofs.FirstWords.{from, from_start}
-use Rattle.section.proofs.CleanLaws.{both_below, solid-from, solid-past}
+use Rattle.section.proofs.CleanLaws.{both_below, solid-from}
 use Rattle.section.proofs.solid_words.Goals as goal
 
 -- At most one more is counted.
