@@ -1,6 +1,5 @@
-// A text and a position in it, kept together, as the Rust's Cursor has them. The text is lent to the struct, so that each function over
-// the struct is proved by hand; these are thin, and leave the reading to functions over plain texts. Past the end of a text a byte reads
-// as 0, so that no function asks anything of its caller.
+// A text and a position in it, kept together, as the Rust's Cursor has them. Past the end of a text a byte reads as 0, so that no function
+// asks anything of its caller.
 
 #![tactic(auto)]
 
@@ -59,7 +58,7 @@ impl<'a> Cursor<'a> {
     }
 }
 
-// The window at a position. No cursor shows in its signature, so that its callers need no proof by hand.
+// The window at a position.
 pub fn window_at(s: &[u8], pos: usize) -> Window
     ensures { result ≡ window_of s.now pos }
 {

@@ -65,7 +65,7 @@ fn at_opener(text: &[u8], toks: &[u32], p: Parser) -> bool
 }
 
 // An operand, or message 5 where none stands.
-#[cycle(additive_expression_delta_expr_list_value_multiplicative_expression_not_value_opener_product_property_expression_property_expression_primary_range_record_value_signed_value_sum)]
+#[cycle(expression)]
 fn property_expression_primary(text: &[u8], toks: &[u32], events: &mut [u32], p: Parser) -> Operand
     ensures { ReadsOperandWithin text toks events p.left G.operand p result }
 {
@@ -104,7 +104,7 @@ fn no_operand(text: &[u8], toks: &[u32], events: &mut [u32], p: Parser) -> Opera
 }
 
 // What begins with an opener: refused where none is left.
-#[cycle(additive_expression_delta_expr_list_value_multiplicative_expression_not_value_opener_product_property_expression_property_expression_primary_range_record_value_signed_value_sum)]
+#[cycle(expression)]
 fn opener(text: &[u8], toks: &[u32], events: &mut [u32], p: Parser) -> Operand
     ensures { ReadsOperandWithin text toks events p.left (opens opener_value) p result }
 {
@@ -126,7 +126,7 @@ fn opener(text: &[u8], toks: &[u32], events: &mut [u32], p: Parser) -> Operand
     }
 }
 
-#[cycle(additive_expression_delta_expr_list_value_multiplicative_expression_not_value_opener_product_property_expression_property_expression_primary_range_record_value_signed_value_sum)]
+#[cycle(expression)]
 fn not_value(text: &[u8], toks: &[u32], events: &mut [u32], p: Parser) -> Completed
     ensures { ReadsNodeWithin text toks events (suc p.left) G.not_value p result }
 {
@@ -137,7 +137,7 @@ fn not_value(text: &[u8], toks: &[u32], events: &mut [u32], p: Parser) -> Comple
     complete(events, p, s.m, BOOLEAN_VALUE)
 }
 
-#[cycle(additive_expression_delta_expr_list_value_multiplicative_expression_not_value_opener_product_property_expression_property_expression_primary_range_record_value_signed_value_sum)]
+#[cycle(expression)]
 fn list_value(text: &[u8], toks: &[u32], events: &mut [u32], p: Parser) -> Completed
     ensures { ReadsNodeWithin text toks events (suc p.left) G.list_value p result }
 {
@@ -156,7 +156,7 @@ fn list_value(text: &[u8], toks: &[u32], events: &mut [u32], p: Parser) -> Compl
     complete(events, p, s.m, LIST_VALUE)
 }
 
-#[cycle(additive_expression_delta_expr_list_value_multiplicative_expression_not_value_opener_product_property_expression_property_expression_primary_range_record_value_signed_value_sum)]
+#[cycle(expression)]
 fn record_value(text: &[u8], toks: &[u32], events: &mut [u32], p: Parser) -> Completed
     ensures { ReadsNodeWithin text toks events (suc p.left) G.record_value p result }
 {
@@ -176,7 +176,7 @@ fn record_value(text: &[u8], toks: &[u32], events: &mut [u32], p: Parser) -> Com
 }
 
 // A sign and the operand that it is for, not the sum around them: `-1 + 2` is a sum.
-#[cycle(additive_expression_delta_expr_list_value_multiplicative_expression_not_value_opener_product_property_expression_property_expression_primary_range_record_value_signed_value_sum)]
+#[cycle(expression)]
 fn signed_value(text: &[u8], toks: &[u32], events: &mut [u32], p: Parser) -> Completed
     ensures { ReadsNodeWithin text toks events (suc p.left) signed_value p result }
 {
@@ -215,7 +215,7 @@ fn at_operator(text: &[u8], toks: &[u32], p: Parser) -> bool
 // Most operands have no operator behind them: what is behind one has functions of its own, and the readers stay small.
 
 // From an operand to a product: the factors behind it, if any.
-#[cycle(additive_expression_delta_expr_list_value_multiplicative_expression_not_value_opener_product_property_expression_property_expression_primary_range_record_value_signed_value_sum)]
+#[cycle(expression)]
 fn product(text: &[u8], toks: &[u32], events: &mut [u32], o: Operand) -> Operand
     ensures { Extends (input text.now toks.now) G.operand G.product o events.old result events.new }
 {
@@ -239,7 +239,7 @@ fn product(text: &[u8], toks: &[u32], events: &mut [u32], o: Operand) -> Operand
     }
 }
 
-#[cycle(additive_expression_delta_expr_list_value_multiplicative_expression_not_value_opener_product_property_expression_property_expression_primary_range_record_value_signed_value_sum)]
+#[cycle(expression)]
 fn multiplicative_expression(text: &[u8], toks: &[u32], events: &mut [u32], p: Parser) -> Operand
     ensures { ReadsOperandWithin text toks events p.left G.product p result }
 {
@@ -248,7 +248,7 @@ fn multiplicative_expression(text: &[u8], toks: &[u32], events: &mut [u32], p: P
 }
 
 // From a product to a sum: the terms behind it, if any.
-#[cycle(additive_expression_delta_expr_list_value_multiplicative_expression_not_value_opener_product_property_expression_property_expression_primary_range_record_value_signed_value_sum)]
+#[cycle(expression)]
 fn sum(text: &[u8], toks: &[u32], events: &mut [u32], o: Operand) -> Operand
     ensures { Extends (input text.now toks.now) G.product G.sum o events.old result events.new }
 {
@@ -272,7 +272,7 @@ fn sum(text: &[u8], toks: &[u32], events: &mut [u32], o: Operand) -> Operand
     }
 }
 
-#[cycle(additive_expression_delta_expr_list_value_multiplicative_expression_not_value_opener_product_property_expression_property_expression_primary_range_record_value_signed_value_sum)]
+#[cycle(expression)]
 fn additive_expression(text: &[u8], toks: &[u32], events: &mut [u32], p: Parser) -> Operand
     ensures { ReadsOperandWithin text toks events p.left G.sum p result }
 {
@@ -281,7 +281,7 @@ fn additive_expression(text: &[u8], toks: &[u32], events: &mut [u32], p: Parser)
 }
 
 // `delta` and a sum, if `delta` stands.
-#[cycle(additive_expression_delta_expr_list_value_multiplicative_expression_not_value_opener_product_property_expression_property_expression_primary_range_record_value_signed_value_sum)]
+#[cycle(expression)]
 fn delta(text: &[u8], toks: &[u32], events: &mut [u32], p: Parser) -> Parser
     ensures { (c : Choice) → Read (input text.now toks.now) p.left (opt c G.delta_value) p events.old result events.new }
 {
@@ -296,7 +296,7 @@ fn delta(text: &[u8], toks: &[u32], events: &mut [u32], p: Parser) -> Parser
 }
 
 // From a sum to a range: `..` and a sum behind it, with what may follow.
-#[cycle(additive_expression_delta_expr_list_value_multiplicative_expression_not_value_opener_product_property_expression_property_expression_primary_range_record_value_signed_value_sum)]
+#[cycle(expression)]
 fn range(text: &[u8], toks: &[u32], events: &mut [u32], o: Operand) -> Parser
     ensures { ToRange (input text.now toks.now) o events.old result events.new }
 {
@@ -314,7 +314,7 @@ fn range(text: &[u8], toks: &[u32], events: &mut [u32], o: Operand) -> Parser
 }
 
 // From an operand to an expression: what stands behind it, if anything.
-#[cycle(additive_expression_delta_expr_list_value_multiplicative_expression_not_value_opener_product_property_expression_property_expression_primary_range_record_value_signed_value_sum)]
+#[cycle(expression)]
 fn expr(text: &[u8], toks: &[u32], events: &mut [u32], o: Operand) -> Parser
     ensures { ToExpression (input text.now toks.now) o events.old result events.new }
 {
@@ -327,7 +327,7 @@ fn expr(text: &[u8], toks: &[u32], events: &mut [u32], o: Operand) -> Parser
 }
 
 // A sum, or a range of two sums; an operand alone, in most cases.
-#[cycle(additive_expression_delta_expr_list_value_multiplicative_expression_not_value_opener_product_property_expression_property_expression_primary_range_record_value_signed_value_sum)]
+#[cycle(expression)]
 pub fn property_expression(text: &[u8], toks: &[u32], events: &mut [u32], p: Parser) -> Parser
     ensures { ReadsWithin text toks events p.left G.expression p result }
 {

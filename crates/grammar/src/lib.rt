@@ -20,7 +20,7 @@ use syntax_kind::{
 // CLASSIFIERS
 
 // A classifier reference, if a name stands: `Pkg::Type`, `Pkg::Type.Impl`, with bindings after it.
-#[cycle(binding_items_classifier_ref_prototype_binding_prototype_binding_list_prototype_bindings)]
+#[cycle(classifier)]
 pub fn classifier_ref(text: &[u8], toks: &[u32], events: &mut [u32], p: Parser) -> Parser
     ensures { ReadsWithin text toks events p.left (maybe G.classifier) p result }
 {
@@ -51,7 +51,7 @@ fn implementation(text: &[u8], toks: &[u32], events: &mut [u32], p: Parser) -> P
 }
 
 // Bindings, if `(` stands: an opener.
-#[cycle(binding_items_classifier_ref_prototype_binding_prototype_binding_list_prototype_bindings)]
+#[cycle(classifier)]
 fn prototype_bindings(text: &[u8], toks: &[u32], events: &mut [u32], p: Parser) -> Parser
     ensures { ReadsWithin text toks events p.left (maybe G.bindings) p result }
 {
@@ -66,7 +66,7 @@ fn prototype_bindings(text: &[u8], toks: &[u32], events: &mut [u32], p: Parser) 
     p
 }
 
-#[cycle(binding_items_classifier_ref_prototype_binding_prototype_binding_list_prototype_bindings)]
+#[cycle(classifier)]
 fn prototype_binding_list(text: &[u8], toks: &[u32], events: &mut [u32], p: Parser) -> Parser
     ensures { ReadsWithin text toks events (suc p.left) G.binding_list p result }
 {
@@ -79,7 +79,7 @@ fn prototype_binding_list(text: &[u8], toks: &[u32], events: &mut [u32], p: Pars
 }
 
 // Bindings with commas between them, if a name stands.
-#[cycle(binding_items_classifier_ref_prototype_binding_prototype_binding_list_prototype_bindings)]
+#[cycle(classifier)]
 fn binding_items(text: &[u8], toks: &[u32], events: &mut [u32], p: Parser) -> Parser
     ensures { ReadsWithin text toks events (suc p.left) (maybe (G.commas (G.binding G.name) (G.binding any))) p result }
 {
@@ -95,7 +95,7 @@ fn binding_items(text: &[u8], toks: &[u32], events: &mut [u32], p: Parser) -> Pa
 }
 
 // One binding, whose head is whatever token stands.
-#[cycle(binding_items_classifier_ref_prototype_binding_prototype_binding_list_prototype_bindings)]
+#[cycle(classifier)]
 fn prototype_binding(text: &[u8], toks: &[u32], events: &mut [u32], p: Parser) -> Parser
     ensures { ReadsWithin text toks events (suc p.left) (G.binding any) p result }
 {

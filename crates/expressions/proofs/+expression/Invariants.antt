@@ -5,7 +5,7 @@ use Rattle.aadl.specs.Section as G
 use Rattle.parser.specs.Input.{input}
 use Rattle.parser.proofs.Loops.{Turning, μ}
 use Rattle.expressions.proofs.Operands.{factor, term, next-item, Chained}
-use Rattle.expressions.proofs.+additive_expression_delta_expr_list_value_multiplicative_expression_not_value_opener_product_property_expression_property_expression_primary_range_record_value_signed_value_sum.Given as goal
+use Rattle.expressions.proofs.+expression.Given as goal
 
 abbrev pub decreases-additive_expression : goal.decreases-additive_expression
 decreases-additive_expression l = l.p.left * 13 + 7

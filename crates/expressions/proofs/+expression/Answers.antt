@@ -21,7 +21,7 @@ use Rattle.parser.proofs.Levels.{seq-at, inside-at, node_at, again_at, link_at, 
 use Rattle.expressions.proofs.Alone.{no_suffix, no_operator, left-same, operand-from, completed-long, preceded_long}
 use Rattle.expressions.proofs.Operands.{r-negated, arm, none-begins, opened-by, opened-else, opener_operand, single-operand, single-product, single-sum, factor, term, next-item}
 use Prim.Native.Nat.{suc}
-use Rattle.expressions.proofs.+additive_expression_delta_expr_list_value_multiplicative_expression_not_value_opener_product_property_expression_property_expression_primary_range_record_value_signed_value_sum.Goals as goal
+use Rattle.expressions.proofs.+expression.Goals as goal
 
 pub additive_expression-sum-requires : goal.additive_expression-sum-requires
 additive_expression-sum-requires t c = (omega (arith, read_left c.multiplicative_expression-o.ensures.reads), tt)

@@ -5,7 +5,7 @@ use Rattle.aadl.specs.Kinds.{COMMA}
 use Rattle.aadl.specs.Section as G
 use Rattle.parser.specs.Input.{input}
 use Rattle.parser.proofs.Loops.{Turning, μ}
-use Rattle.grammar.proofs.+binding_items_classifier_ref_prototype_binding_prototype_binding_list_prototype_bindings.Given as goal
+use Rattle.grammar.proofs.+classifier.Given as goal
 
 abbrev pub decreases-binding_items : goal.decreases-binding_items
 decreases-binding_items l = l.p.left * 8 + 3

@@ -13,7 +13,7 @@ use Rattle.parser.proofs.Taking.{r-node_head, bumped_inside}
 use Rattle.parser.proofs.Loops.{w-holds, w-again, w-less, w-done}
 use Rattle.parser.proofs.Levels.{seq-at, inside-at, again_at, opens_at, same}
 use Prim.Native.Nat.{suc}
-use Rattle.grammar.proofs.+binding_items_classifier_ref_prototype_binding_prototype_binding_list_prototype_bindings.Goals as goal
+use Rattle.grammar.proofs.+classifier.Goals as goal
 
 pub binding_items-loop-events-init : goal.binding_items-loop-events-init
 binding_items-loop-events-init t c = w-holds
