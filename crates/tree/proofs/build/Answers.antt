@@ -1,81 +1,58 @@
 -- No record is lent; else the root is open, and the events are passed one at a turn (Building, of the first words). The measure is how many are
 -- left. Assumes nothing.
-use Prim.Native.Nat.{ℕ, ◌-◌, ◌≤◌, ◌<◌}
+use Prim.Native.Nat.{ℕ}
 use native.Mathlib.Omega.{arith}
 use native.Mathlib.Numerals.{add-one}
 use mathlib.Core.Path.{◌≡◌, sym, ap, subst, ◌∙◌}
-use mathlib.Core.List.{[], ◌∷◌}
-use lib.ListN.{length, get_or}
+use mathlib.Core.List.{List, [], ◌∷◌}
+use lib.ListN.{get_or}
 use lib.Seq.{sets}
-use borrow.Author.Rules.{rules}
 use Rattle.aadl.specs.Tokens.{kind_in}
 use Rattle.aadl.specs.Encoding.{first_words}
 use Rattle.aadl.specs.Records.{of_node, words_of_records}
 use Rattle.tree.proofs.Building.{Building, building_begins, building_none, built_over, building_done, building_more, building_full}
 use Rattle.tree.proofs.build.Goals as goal
 
+-- The root's record is written, with the kind in the first event's first word.
+begun : (ws old new : List ℕ) (w kind : ℕ) → w ≡ get_or ws 0 0 → kind ≡ kind_in w →
+    new ≡ sets old 0 (words_of_records (of_node kind 0 0 0 ∷ [])) → new ≡ sets old 0 (words_of_records (of_node (kind_in (get_or ws 0 0)) 0 0 0 ∷ []))
+begun ws old new w kind e f put = put ∙ ap (λ (k : ℕ). sets old 0 (words_of_records (of_node k 0 0 0 ∷ []))) (f ∙ ap kind_in e)
+
 pub returns-then-records-lt4 : goal.returns-then-records-lt4
-returns-then-records-lt4 c =
-    let a = c.args in
-    building_none (first_words a.events.now) a.records.now c.if-records-lt4.true
+returns-then-records-lt4 c = building_none (first_words c.args.events.now) c.args.records.now c.if-records-lt4.true
 
 pub loop-i-init : goal.loop-i-init
 loop-i-init c =
-    let begun : let a = c.args in
-    c.put_record.new.out ≡ sets a.records.now 0 (words_of_records (of_node (kind_in (get_or (first_words a.events.now) 0 0)) 0 0 0 ∷ [])) = let a = c.args in
-    let kind = c.kind_in.ensures ∙ ap kind_in c.first_word.ensures in
-    c.put_record.ensures ∙ ap (λ (k : ℕ). sets a.records.now 0 (words_of_records (of_node k 0 0 0 ∷ []))) kind in
-    let at-put = c in
-    let at-if1 = at-put in
-    let a = at-if1.args in
-    building_begins (first_words a.events.now) a.records.now at-put.put_record.new.out (omega (arith, at-if1.if-records-lt4.false)) (begun)
+    let a = c.args in
+    let ws = first_words a.events.now in
+    building_begins ws a.records.now c.put_record.new.records (omega arith)
+    (begun ws a.records.now _ _ _ c.first_word.ensures c.kind_in.ensures c.put_record.ensures)
 
 pub returns-then-room-b : goal.returns-then-room-b
 returns-then-room-b c =
-    let begun : let a = c.args in
-    c.put_record.new.out ≡ sets a.records.now 0 (words_of_records (of_node (kind_in (get_or (first_words a.events.now) 0 0)) 0 0 0 ∷ [])) = let a = c.args in
-    let kind = c.kind_in.ensures ∙ ap kind_in c.first_word.ensures in
-    c.put_record.ensures ∙ ap (λ (k : ℕ). sets a.records.now 0 (words_of_records (of_node k 0 0 0 ∷ []))) kind in
-    let there : let at-loop = c in
-    at-loop.loop-i.i < length (first_words at-loop.args.events.now) = omega (arith, c.events_told-told.ensures, c.loop-i-test.true) in
-    let at_turn = c in
-    let in-loop = at_turn in
-    let at-put = in-loop in
-    let at-if1 = at-put in
-    let a = at-if1.args in
+    let a = c.args in
     let ws = first_words a.events.now in
-    let l = in-loop.loop-i in
-    let put = at-put.put_record in
-    let went = at_turn.turn-b in
-    built_over ws a.records.now put.new.??out,from went.result went.new.text.0 (omega (arith, at-if1.if-records-lt4.false)) (begun)
-    (building_full ws put.new.??out,from l.invariant (there) went.result went.new.text.0 (went.ensures put.new.??out,from l.invariant.so_far l.invariant.holds) (omega (arith, c.if-room-b.true, put.auto.0)))
+    let x = c.loop-i.invariant in
+    let begins = c.put_record.new.records in
+    let went = c.turn-b in
+    built_over ws a.records.now begins went.result went.new.records (omega arith)
+    (begun ws a.records.now _ _ _ c.first_word.ensures c.kind_in.ensures c.put_record.ensures)
+    (building_full ws begins x (omega arith) went.result went.new.records (went.ensures begins x.so_far x.holds) (omega arith))
 
 pub loop-i-preserved : goal.loop-i-preserved
 loop-i-preserved c =
-    let there : let at-loop = c in
-    at-loop.loop-i.i < length (first_words at-loop.args.events.now) = omega (arith, c.events_told-told.ensures, c.loop-i-test.true) in
-    let at_turn = c in
-    let in-loop = at_turn in
-    let at-put = in-loop in
-    let ws = first_words at-put.args.events.now in
-    let l = in-loop.loop-i in
-    let put = at-put.put_record in
-    let went = at_turn.turn-b in
-    subst (λ (n : ℕ). Building ws put.new.??out,from n went.result went.new.text.0) (sym (add-one l.i))
-    (building_more ws put.new.??out,from l.invariant (there) went.result went.new.text.0 (went.ensures put.new.??out,from l.invariant.so_far l.invariant.holds) (omega (arith, c.if-room-b.false, put.auto.0)))
+    let ws = first_words c.args.events.now in
+    let x = c.loop-i.invariant in
+    let begins = c.put_record.new.records in
+    let went = c.turn-b in
+    subst (λ (n : ℕ). Building ws begins n went.result went.new.records) (sym (add-one c.loop-i.i))
+    (building_more ws begins x (omega arith) went.result went.new.records (went.ensures begins x.so_far x.holds) (omega arith))
 
 pub returns : goal.returns
 returns c =
-    let begun : let a = c.args in
-    c.put_record.new.out ≡ sets a.records.now 0 (words_of_records (of_node (kind_in (get_or (first_words a.events.now) 0 0)) 0 0 0 ∷ [])) = let a = c.args in
-    let kind = c.kind_in.ensures ∙ ap kind_in c.first_word.ensures in
-    c.put_record.ensures ∙ ap (λ (k : ℕ). sets a.records.now 0 (words_of_records (of_node k 0 0 0 ∷ []))) kind in
-    let at-loop = c in
-    let at-put = at-loop in
-    let at-if1 = at-put in
-    let a = at-if1.args in
+    let a = c.args in
     let ws = first_words a.events.now in
-    let l = at-loop.loop-i in
-    let put = at-put.put_record in
-    let all : length ws ≤ l.i = omega (arith, at-loop.events_told-told.ensures, c.loop-i-test.false) in
-    built_over ws a.records.now put.new.??out,from l.b l.records (omega (arith, at-if1.if-records-lt4.false)) (begun) (building_done ws put.new.??out,from l.invariant all)
+    let l = c.loop-i in
+    let begins = c.put_record.new.records in
+    built_over ws a.records.now begins l.b l.records (omega arith)
+    (begun ws a.records.now _ _ _ c.first_word.ensures c.kind_in.ensures c.put_record.ensures) (building_done ws begins l.invariant (omega arith))

@@ -4,7 +4,7 @@ use Prim.Native.Nat.{◌+◌, ◌-◌, ◌≤◌}
 use mathlib.Core.Path.{◌≡◌}
 use lib.ListN.{length}
 use Rattle.aadl.specs.Encoding.{told_by}
-use Rattle.tree.specs.Walk.{link, links}
+use Rattle.tree.specs.Walk.{links}
 use Rattle.tree.proofs.chain_length.Given as goal
 
 abbrev pub invariant-loop-at : goal.invariant-loop-at

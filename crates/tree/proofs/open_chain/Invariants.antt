@@ -1,5 +1,5 @@
 -- One record at a turn, from the chain's end (ChainWriting, of the first words). The measure is how many are left. Assumes nothing.
-use Prim.Native.Nat.{◌-◌, ◌≤◌}
+use Prim.Native.Nat.{◌≤◌}
 use Rattle.aadl.specs.Encoding.{first_words}
 use Rattle.tree.proofs.ChainWriting.{Writing}
 use Rattle.tree.proofs.open_chain.Given as goal

@@ -3,7 +3,6 @@
 use native.Mathlib.Omega.{arith}
 use mathlib.Core.Path.{sym, ap, ◌∙◌}
 use lib.Seq.{length-take-le}
-use borrow.Author.Rules.{rules}
 use Rattle.aadl.specs.declared.Answer.{Answer}
 use Rattle.aadl.specs.Encoding.{words_for}
 use Rattle.aadl.specs.Records.{with_records}
@@ -13,75 +12,46 @@ use Rattle.tree.proofs.property_tree_within.Goals as goal
 
 pub returns-then-a-ne0 : goal.returns-then-a-ne0
 returns-then-a-ne0 c =
-    let at-refused = c in
-    let at-if1 = at-refused in
-    let at-section = at-if1 in
-    let at-args = at-section in
-    let gone = at-refused.without_records in
-    called-refused at-section.property_section_within-a.ensures gone.result at-args.args.records.now gone.new.??tokens,words,records at-if1.if-a-ne0.true gone.ensures.0 gone.ensures.1
+    let gone = c.without_records in
+    called-refused c.property_section_within-a.ensures gone.result c.args.records.now gone.new.records c.if-a-ne0.true gone.ensures.0 gone.ensures.1
 
 pub overflow_mul-a : goal.overflow_mul-a
 overflow_mul-a c =
-    let at-section = c in
-    let at-args = at-section in
-    record { fits = omega (arith, at-args.well_formed, at-section.property_section_within-a.auto.1.1.0, events-fit at-section.property_section_within-a.ensures c.if-a-ne0.false) }
+    record { fits = omega (arith, c.well_formed, c.property_section_within-a.auto.events, events-fit c.property_section_within-a.ensures c.if-a-ne0.false) }
 
 pub slice_bounds-build-end : goal.slice_bounds-build-end
-slice_bounds-build-end c =
-    let at-section = c in
-    events-fit at-section.property_section_within-a.ensures c.if-a-ne0.false
+slice_bounds-build-end c = events-fit c.property_section_within-a.ensures c.if-a-ne0.false
 
 pub slice_bounds-build-end-2 : goal.slice_bounds-build-end-2
 slice_bounds-build-end-2 c =
-    let at-section = c in
-    sym (length-take-le (words_for at-section.property_section_within-a.result.events) at-section.property_section_within-a.new.events.1.0 (event-count_fits c))
+    let made = c.property_section_within-a in
+    sym (length-take-le (words_for made.result.events) made.new.events (events-fit made.ensures c.if-a-ne0.false))
 
 pub build-b-requires : goal.build-b-requires
-build-b-requires c =
-    let at-if1 = c in
-    let at-section = at-if1 in
-    events-stand at-section.property_section_within-a.ensures at-if1.if-a-ne0.false
+build-b-requires c = events-stand c.property_section_within-a.ensures c.if-a-ne0.false
 
 pub slice_bounds-token_place-end : goal.slice_bounds-token_place-end
-slice_bounds-token_place-end c =
-    let at-if1 = c in
-    let at-section = at-if1 in
-    tokens-fit at-section.property_section_within-a.ensures at-if1.if-a-ne0.false
+slice_bounds-token_place-end c = tokens-fit c.property_section_within-a.ensures c.if-a-ne0.false
 
 pub slice_bounds-token_place-end-then-records-b : goal.slice_bounds-token_place-end-then-records-b
 slice_bounds-token_place-end-then-records-b c =
-    let at-section = c in
-    sym (length-take-le at-section.property_section_within-a.result.tokens at-section.property_section_within-a.new.events.0 (token-count_fits c))
+    let made = c.property_section_within-a in
+    sym (length-take-le made.result.tokens made.new.tokens (tokens-fit made.ensures c.if-a-ne0.false))
 
 pub token_place-place-requires : goal.token_place-place-requires
 token_place-place-requires c =
-    let at-if1 = c in
-    let at-section = at-if1 in
-    let at-args = at-section in (
-      passed-short at-section.property_section_within-a.ensures at-if1.if-a-ne0.false at-args.requires,
-      token_words-counted at-section.property_section_within-a.ensures at-if1.if-a-ne0.false,
-    )
+    let made = c.property_section_within-a.ensures in
+    (passed-short made c.if-a-ne0.false c.requires, token_words-counted made c.if-a-ne0.false)
 
 pub returns-then-records-b : goal.returns-then-records-b
 returns-then-records-b c =
-    let at-refused = c in
-    let at-refuse = at-refused in
-    let at_clear = at-refuse in
-    let at_place = at_clear in
-    let at-if2 = at_place in
-    let at-build = at-if2 in
-    let at-if1 = at-build in
-    let at-section = at-if1 in
-    let kept = at-section.property_section_within-a.auto in
-    let gone = at-refused.without_records-then-records-b in
-    called-full at-section.property_section_within-a.ensures at-if1.if-a-ne0.false at-build.build-b.ensures
-    gone.result at_place.token_place-place.result at-refuse.refuse.new.??tokens,words,records at_clear.clear.new.words gone.new.??tokens,words,records
-    at-if2.if-records-b.true at_place.token_place-place.ensures (gone.ensures.0 ∙ ap (λ (a : Answer). with_records a 0) at-refuse.refuse.ensures.0) kept.1.0 kept.1.1.0
-    at-refuse.refuse.ensures.1 at_clear.clear.ensures gone.ensures.1
+    let made = c.property_section_within-a in
+    let place = c.token_place-place in
+    let refused = c.refuse in
+    let gone = c.without_records-then-records-b in
+    called-full made.ensures c.if-a-ne0.false c.build-b.ensures gone.result place.result refused.new.tokens c.clear.new.words gone.new.records
+    c.if-records-b.true place.ensures (gone.ensures.0 ∙ ap (λ (a : Answer). with_records a 0) refused.ensures.0) made.auto.tokens made.auto.events
+    refused.ensures.1 c.clear.ensures gone.ensures.1
 
 pub returns : goal.returns
-returns c =
-    let at-build = c in
-    let at-if1 = at-build in
-    let at-section = at-if1 in
-    called-built at-section.property_section_within-a.ensures at-if1.if-a-ne0.false at-build.build-b.ensures c.if-records-b.false
+returns c = called-built c.property_section_within-a.ensures c.if-a-ne0.false c.build-b.ensures c.if-records-b.false
