@@ -370,6 +370,18 @@ mutual
       (then-part_nil (node_over k (part_of a and_then part_of b)) ∙ part-wrap k a b nil)
       (rw (append_assoc first (start k up ∷ events b 0) (finish ∷ []))
       (leads-node first (part_of a) (leads-events a p.0 p.1) (events b 0) (part_of b) (does_events b p.2) k))
+  -- no other forest is whole
+  leads-events nil w p = elim w [ ]
+  leads-events (leaf kind _) w p = elim w [ ]
+  leads-events (err _ _) w p = elim w [ ]
+  leads-events (node k i (leaf kind _)) w p = elim w [ ]
+  leads-events (node k i (err _ _)) w p = elim w [ ]
+  leads-events (node k i (node kind inside _)) w p = elim w [ ]
+  leads-events (node k i (wrap kind a b _)) w p = elim w [ ]
+  leads-events (wrap k a b (leaf kind _)) w p = elim w [ ]
+  leads-events (wrap k a b (err _ _)) w p = elim w [ ]
+  leads-events (wrap k a b (node kind inside _)) w p = elim w [ ]
+  leads-events (wrap k a b (wrap kind _ _ _)) w p = elim w [ ]
 
 -- THE THEOREM: a walk over a node's events, from where the node is open, fills exactly the node's records.
 pub walk-records : (k : ℕ) (i : Forest) → Proper i → (walk 0 (events (node k i nil) 0) (root k)).rows ≡ records (node k i nil)
