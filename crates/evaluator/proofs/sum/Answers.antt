@@ -1,30 +1,35 @@
 -- One product at a turn (Arriving): behind it the sum so far is complete, and `+` or `-` makes it wait for the next product (Steps). The measure
 -- is what remains. Assumes nothing.
-use Prim.Native.Nat.{ℕ, suc, ◌≤◌}
+use Prim.Native.Nat.{ℕ}
 use native.Mathlib.Omega.{arith}
 use mathlib.Core.Path.{◌≡◌, refl, sym, ap, subst, ◌∙◌}
 use mathlib.Core.Bool.{Bool, true, false, ◌||◌}
 use mathlib.Core.List.{List, [], ◌∷◌}
-use lib.ListN.{length}
 use lib.Dec.{eqb}
 use borrow.Author.Tests.{not-true, not-false}
-use borrow.Author.Rules.{rules}
 use Rattle.predictive.specs.Grammar.{has}
 use Rattle.predictive.proofs.Tests.{never}
 use Rattle.aadl.specs.Kinds.{PLUS, MINUS, STAR, #◌}
-use Rattle.int64.specs.Integers.{most}
-use Rattle.parser.specs.Input.{input, rest}
+use Rattle.parser.specs.declared.Parser.{Parser}
 use Rattle.section.specs.Standing.{Passed}
 use Rattle.section.proofs.Passing.{passed-one}
+use Rattle.evaluator.specs.declared.Term.{Term}
 use Rattle.evaluator.specs.Pass.{nothing, expects, behind}
-use Rattle.evaluator.specs.Terms.{passing, ahead_at, Arrived}
+use Rattle.evaluator.specs.Terms.{Then, passing, ahead_at, Arrived, ProductRead}
 use Rattle.evaluator.proofs.Ahead.{passed-ahead}
 use Rattle.evaluator.proofs.Passing.{two-kinds}
 use Rattle.evaluator.proofs.Steps.{sum_step, no_star}
 use Rattle.evaluator.proofs.Arriving.{arrived-on, arrived-clear, none-arrived, arrived-at, arrived-then, Ready, ready_first, ready_again, remains-less}
 use Rattle.evaluator.proofs.sum.Goals as goal
 
--- behind the product
+-- The product r is read at q, and u is r with what waits for it.
+arrived : (text : List ℕ) (k : ℕ) (q : Parser) (op : ℕ) (t r u : Term) →
+    Ready text k (passing text k (expects false nothing nothing)) (λ i w. passing text i (expects false w nothing)) q op t → Then t op r u →
+    ((j : ℕ) → Passed text j q → ProductRead text j r) →
+    Arrived text k (passing text k (expects false nothing nothing)) (λ j o. passing text j (behind nothing o)) (# STAR ∷ []) u
+arrived text k q op t r u x y e =
+    arrived-then text y x.waits x.from x.gives (arrived-on text (λ j o n. no_star text j x.pending o n) (e x.to x.stands x.pending))
+
 none-of_three : (x : ℕ) → (eqb x (# PLUS) || eqb x (# MINUS)) ≡ false → has (# STAR ∷ []) x ≡ false → has (# PLUS ∷ # MINUS ∷ # STAR ∷ []) x ≡ false
 none-of_three x e f = go (eqb x (# PLUS)) (eqb x (# MINUS)) e f
   where
@@ -33,68 +38,58 @@ none-of_three x e f = go (eqb x (# PLUS)) (eqb x (# MINUS)) e f
     go false true g h = g
     go false false g h = h
 
+-- a kind that is one of two is none that is not
+not_one : (x : ℕ) → has (# PLUS ∷ # MINUS ∷ []) x ≡ true → (n : ℕ) → has (# PLUS ∷ # MINUS ∷ []) n ≡ false → x ≡ n → ⊥
+not_one x t n e f = never (sym e ∙ ap (has (# PLUS ∷ # MINUS ∷ [])) (sym f) ∙ t)
+
 pub loop-t-init : goal.loop-t-init
-loop-t-init c = (λ k x. ready_first c.args.text.now {from-here = λ i w. passing c.args.text.now i (expects false w nothing)} x, omega (arith, c.none-t.ensures.1))
+loop-t-init c =
+    let text = c.args.text.now in
+    (λ k x. ready_first text {from-here = λ i w. passing text i (expects false w nothing)} x, omega (arith, c.none-t.ensures.1))
 
 pub returns-then-not-t : goal.returns-then-not-t
-returns-then-not-t c =
-    let q = c in
-    λ k y. none-arrived (text q) (c.if-not-t.true) (arrived q k y)
+returns-then-not-t c = λ k y.
+    none-arrived c.args.text.now (not-true c.then-t.result.constant c.if-not-t.true)
+    (arrived c.args.text.now k _ _ _ _ _ (c.loop-t.invariant.0 k y) c.then-t.ensures.0 c.product-r.ensures.0)
 
 pub returns-then-not-op : goal.returns-then-not-op
-returns-then-not-op c =
-    let shown : (j : ℕ) → Passed (text c) j c.then-t.result.p →
-    c.current-op.result ≡ ahead_at (text c) j = λ j x. let q = c in
-    let p = q in
-    passed-ahead (text q) j q.then-t.result.p x p.args.toks.now p.requires.1 c.current-op.result c.current-op.ensures in
-    let q = c in
-    λ k y.
-    arrived-clear (text q)
-    (λ j x n. none-of_three (ahead_at (text q) j) (ap (λ (d : ℕ). eqb d (# PLUS) || eqb d (# MINUS)) (sym (shown j x)) ∙ c.if-not-op.true) n) (arrived q k y)
-
-module _ (c : goal.After-pass-q invariant_loop decreases_loop) where
-  constant : c.then-t.result.constant ≡ true
-  constant = c.if-not-t.false
-
-  one_of_two : has (# PLUS ∷ # MINUS ∷ []) c.current-op.result ≡ true
-  one_of_two = two-kinds (# PLUS) (# MINUS) c.current-op.result ∙ c.if-not-op.false
-
-  not_one : (n : ℕ) → has (# PLUS ∷ # MINUS ∷ []) n ≡ false → c.current-op.result ≡ n → ⊥
-  not_one n e f = never (sym e ∙ ap (has (# PLUS ∷ # MINUS ∷ [])) (sym f) ∙ one_of_two)
-
-  next : (j : ℕ) → Passed (text c) j c.then-t.result.p →
-      Passed (text c) (suc j) c.pass-q.result
-  next j x =
-      let q = c in
-      let p = q in
-      passed-one (text q) p.args.toks.now p.requires.1 j q.then-t.result.p c.pass-q.result x (c.pass-q.ensures [])
+returns-then-not-op c = λ k y.
+    let text = c.args.text.now in
+    let p = c.then-t.result.p in
+    let shown : (j : ℕ) → Passed text j p → c.current-op.result ≡ ahead_at text j = λ j x. passed-ahead text j p x c.args.toks.now c.requires.1 _ c.current-op.ensures in
+    arrived-clear text
+    (λ j x n. none-of_three (ahead_at text j) (ap (λ (d : ℕ). eqb d (# PLUS) || eqb d (# MINUS)) (sym (shown j x)) ∙ c.if-not-op.true) n)
+    (arrived text k _ _ _ _ _ (c.loop-t.invariant.0 k y) c.then-t.ensures.0 c.product-r.ensures.0)
 
 -- the operator, and the parser behind it
 pub loop-t-smaller : goal.loop-t-smaller
 loop-t-smaller c =
-    let shown : (j : ℕ) → Passed (text c) j c.then-t.result.p →
-    c.current-op.result ≡ ahead_at (text c) j = λ j x. let q = c in
-    let p = q in
-    passed-ahead (text q) j q.then-t.result.p x p.args.toks.now p.requires.1 c.current-op.result c.current-op.ensures in
-    let q = c in
-    let p = q in
-    let l = q.loop-t in
-    let r = l.invariant.0 p.requires.3.0 p.requires.3.1 in
-    let e = q.then-t.ensures.0 in
-    let a = arrived-at (text q) (q.product-r.ensures.0 r.to r.stands r.pending) (sym e.constant ∙ constant c) in
-    let at = subst (Passed (text q) a.0) (sym e.stands) a.1.1 in
-    remains-less (text q) p.args.toks.now p.requires.1 l.q c.pass-q.result r.to a.0 c.current-op.result r.stands a.1.0 (sym (shown a.0 at)) (not_one c 257 refl)
-    (next c a.0 at)
+    let text = c.args.text.now in
+    let ws = c.args.toks.now in
+    let w = c.requires.1 in
+    let u = c.then-t.result in
+    let op = c.current-op.result in
+    let x = c.loop-t.invariant.0 c.requires.3.0 c.requires.3.1 in
+    let e = c.then-t.ensures.0 in
+    let a = arrived-at text (c.product-r.ensures.0 x.to x.stands x.pending) (sym e.constant ∙ not-false u.constant c.if-not-t.false) in
+    let at = subst (Passed text a.0) (sym e.stands) a.1.1 in
+    remains-less text ws w c.loop-t.q c.pass-q.result x.to a.0 op x.stands a.1.0 (sym (passed-ahead text a.0 u.p at ws w op c.current-op.ensures))
+    (not_one op (two-kinds (# PLUS) (# MINUS) op ∙ c.if-not-op.false) 257 refl) (passed-one text ws w a.0 u.p c.pass-q.result at (c.pass-q.ensures []))
 
 pub loop-t-preserved : goal.loop-t-preserved
 loop-t-preserved c =
-    let shown : (j : ℕ) → Passed (text c) j c.then-t.result.p →
-    c.current-op.result ≡ ahead_at (text c) j = λ j x. let q = c in
-    let p = q in
-    passed-ahead (text q) j q.then-t.result.p x p.args.toks.now p.requires.1 c.current-op.result c.current-op.ensures in
-    let q = c in (
+    let text = c.args.text.now in
+    let ws = c.args.toks.now in
+    let w = c.requires.1 in
+    let u = c.then-t.result in
+    let op = c.current-op.result in
+    let one_of_two : has (# PLUS ∷ # MINUS ∷ []) op ≡ true = two-kinds (# PLUS) (# MINUS) op ∙ c.if-not-op.false in (
       λ k y.
-          ready_again (text q) {from-here = λ i w. passing (text q) i (expects false w nothing)} (constant c) (not_one c 256 refl)
-          (λ j o x. (sum_step (text q) j c.current-op.result o (sym (shown j x)) (one_of_two c), next c j x)) (arrived q k y),
-      q.then-t.ensures.1,
+          ready_again text {from-here = λ i v. passing text i (expects false v nothing)} (not-false u.constant c.if-not-t.false) (not_one op one_of_two 256 refl)
+          (λ j o x. (
+            sum_step text j op o (sym (passed-ahead text j u.p x ws w op c.current-op.ensures)) one_of_two,
+            passed-one text ws w j u.p c.pass-q.result x (c.pass-q.ensures []),
+          ))
+          (arrived text k _ _ _ _ _ (c.loop-t.invariant.0 k y) c.then-t.ensures.0 c.product-r.ensures.0),
+      c.then-t.ensures.1,
     )
