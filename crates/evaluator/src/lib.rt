@@ -5,7 +5,8 @@
 
 ghost use Rattle.std.specs.Prelude.{◌≡◌, ℕ, ◌≤◌, ◌<◌, true, false, List, [], ◌∷◌, length, drop};
 ghost use Rattle.predictive.specs.Grammar.{has};
-ghost use Rattle.aadl.specs.Kinds.{SLASH, DOT_DOT, IDENT, #◌};
+ghost use Rattle.aadl.specs.Kinds as K;
+ghost use Rattle.aadl.specs.Kinds.{#◌};
 ghost use Rattle.aadl.specs.Symbols.{symbols, start_of};
 ghost use Rattle.aadl.specs.Answers.{token_words};
 ghost use Rattle.aadl.specs.Values as Vs;
@@ -253,7 +254,7 @@ fn past_arrow(text: &[u8], toks: &[u32], p: Parser) -> Parser
 
 // What makes a value no constant where it stands behind a sum: `/`, `..`, or a name, which is a unit.
 fn goes_on(kind: u32) -> bool
-    ensures { result ≡ has (# SLASH ∷ # DOT_DOT ∷ # IDENT ∷ []) kind }
+    ensures { result ≡ has (# K.SLASH ∷ # K.DOT_DOT ∷ # K.IDENT ∷ []) kind }
 {
     (kind == SLASH) | ((kind == DOT_DOT) | (kind == IDENT))
 }
