@@ -13,8 +13,7 @@ use Rattle.replay_lines.specs.Records.{old_word, value_lines}
 use Rattle.replay.specs.Calls.{value_called}
 use Rattle.replay.proofs.Filled.{long}
 use borrow.Author.Rules.{rules}
-use Rattle.replay.proofs.call_value.Statement.{statement}
-use Rattle.replay.proofs.call_value.Tie as tie
+use Rattle.replay.proofs.call_value.Goals as goal
 
 module _ (text : List ℕ) (m n k : ℕ) (ts es : List ℕ) (f : ts ≡ replicate m old_word) (g : es ≡ replicate n old_word) where
   lines : (a : ValueAnswer) (us vs : List ℕ) → a ≡ value_answer base text (length ts) (length es) k → us ≡ left_in a.answer (token_words text) ts →
@@ -26,18 +25,14 @@ module _ (text : List ℕ) (m n k : ℕ) (ts es : List ℕ) (f : ts ≡ replicat
       let events = e ∙ (λ i. left_in (answer i).answer (event_words base text) (g i)) in
       λ i. value_lines (answer i) (tokens i) (events i)
 
-returns : tie.Need-returns
+pub returns : goal.returns
 returns c =
-    let at-put = c.before.before in
-    let at_call = at-put.before.before.before.before.before.before.before.before in
-    let at-fill2 = at_call.before.before.before.before.before in
-    let at_fill_lem = at-fill2.before.before.before.before in
-    let x = at_fill_lem.before.before.before.before.before.before.args in
-    let called = at_call.association-value.ensures in
+    let at-put = c in
+    let at_call = at-put in
+    let at-fill2 = at_call in
+    let at_fill_lem = at-fill2 in
+    let x = at_fill_lem.args in
+    let called = at_call.association_value-a.ensures in
     let same =
-    lines x.src.now (length x.tokens.now) (length x.events.now) x.number _ _ at_fill_lem.fill.ensures at-fill2.fill2.ensures _ _ _ (value-answered called) (value-left called).0 (value-left called).1 in
-    wrote-same at-put.put-valued.ensures same
-
-pub call_value_spec : {M : Type 1} → statement M
-call_value_spec =
-    tie.close (tie.spec (λ c κs. search rules) (λ c κs. search rules) (λ c κs. search rules) (λ c κs. search rules) (λ c. search rules) (λ c. search rules) (λ c. search rules) returns)
+    lines x.src.now (length x.tokens.now) (length x.events.now) x.number _ _ at_fill_lem.fill.ensures at-fill2.fill-2.ensures _ _ _ (value-answered called) (value-left called).0 (value-left called).1 in
+    wrote-same at-put.put_valued.ensures same

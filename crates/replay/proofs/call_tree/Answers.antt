@@ -13,8 +13,7 @@ use Rattle.replay_lines.specs.Records.{old_word, tree_lines}
 use Rattle.replay.specs.Calls.{tree_called}
 use Rattle.replay.proofs.Filled.{long}
 use borrow.Author.Rules.{rules}
-use Rattle.replay.proofs.call_tree.Statement.{statement}
-use Rattle.replay.proofs.call_tree.Tie as tie
+use Rattle.replay.proofs.call_tree.Goals as goal
 
 module _ (text : List ℕ) (m n k : ℕ) (ts es rs : List ℕ) (f : ts ≡ replicate m old_word) (g : es ≡ replicate n old_word) (h : rs ≡ replicate k old_word) where
   lines : (a : TreeAnswer) (us vs ws : List ℕ) → a ≡ tree_answer base text (length ts) (length es) (length rs) → us ≡ left_in a.answer (token_words text) ts →
@@ -27,22 +26,16 @@ module _ (text : List ℕ) (m n k : ℕ) (ts es rs : List ℕ) (f : ts ≡ repli
       let records = r ∙ (λ i. left_in (answer i).answer (record_words base text) (h i)) in
       λ i. tree_lines (answer i) (tokens i) (events i) (records i)
 
-returns : tie.Need-returns
+pub returns : goal.returns
 returns c =
-    let at-put = c.before.before in
-    let at_call = at-put.before.before.before.before.before.before.before.before.before.before.before in
-    let at-fill3 = at_call.before.before.before.before.before.before in
-    let at-fill2 = at-fill3.before.before.before.before in
-    let at_fill_lem = at-fill2.before.before.before.before in
-    let x = at_fill_lem.before.before.before.before.before.before.before.args in
-    let called = at_call.property-tree.ensures in
+    let at-put = c in
+    let at_call = at-put in
+    let at-fill3 = at_call in
+    let at-fill2 = at-fill3 in
+    let at_fill_lem = at-fill2 in
+    let x = at_fill_lem.args in
+    let called = at_call.property_tree-a.ensures in
     let same =
-    lines x.src.now (length x.tokens.now) (length x.events.now) (length x.records.now) _ _ _ at_fill_lem.fill.ensures at-fill2.fill2.ensures at-fill3.fill3.ensures _ _
+    lines x.src.now (length x.tokens.now) (length x.events.now) (length x.records.now) _ _ _ at_fill_lem.fill.ensures at-fill2.fill-2.ensures at-fill3.fill-3.ensures _ _
     _ _ (tree-answered called) (tree-left called).0 (tree-left called).1.0 (tree-left called).1.1 in
-    wrote-same at-put.put-tree.ensures same
-
-pub call_tree_spec : {M : Type 1} → statement M
-call_tree_spec =
-    tie.close
-    (tie.spec (λ c κs. search rules) (λ c κs. search rules) (λ c κs. search rules) (λ c κs. search rules) (λ c κs. search rules) (λ c. search rules) (λ c. search rules) (λ c. search rules)
-    (λ c. search rules) returns)
+    wrote-same at-put.put_tree.ensures same
