@@ -1,14 +1,11 @@
 -- The library's call, and its answer's eight numbers told. Assumes nothing.
-use mathlib.Core.Path.{ap, subst, ◌∙◌}
+use mathlib.Core.Path.{ap, ◌∙◌}
 use mathlib.Core.List.{List}
 use Prim.Native.Nat.{ℕ}
-use Rattle.aadl.specs.Tokens.{from_token}
-use Rattle.aadl.specs.NumberParts.{part_numbers, PartsHold}
+use Rattle.aadl.specs.NumberParts.{part_numbers}
 use Rattle.lexer.specs.Filling.{write}
 use Rattle.capi.specs.Numbers.{parts_told}
-use borrow.Author.Rules.{rules}
 use Rattle.capi.proofs.gigboda_number_parts.Goals as goal
-
 
 pub returns-clause-parts_numbers : goal.returns-clause-parts_numbers
 unfolding parts_told

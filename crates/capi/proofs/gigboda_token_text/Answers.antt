@@ -5,10 +5,8 @@ use mathlib.Core.List.{[], ◌∷◌}
 use lib.ListN.{length}
 use Rattle.lexer.specs.Filling.{write}
 use Rattle.capi.specs.Numbers.{part_told}
-use borrow.Author.Rules.{rules}
 use Rattle.capi.proofs.Telling.{part-is_text}
 use Rattle.capi.proofs.gigboda_token_text.Goals as goal
-
 
 pub returns-clause-part_numbers : goal.returns-clause-part_numbers
 unfolding part_told

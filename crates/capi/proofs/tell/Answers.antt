@@ -1,14 +1,11 @@
 -- Before `i` the numbers are written, as far as they are lent (Telling). The measure is what is left of them. Assumes nothing.
-use Prim.Native.Nat.{ℕ, ◌-◌, ◌≤◌}
+use Prim.Native.Nat.{ℕ}
 use native.Mathlib.Omega.{arith}
 use native.Mathlib.Numerals.{add-one}
-use mathlib.Core.Path.{◌≡◌, refl, ap, ◌∙◌}
+use mathlib.Core.Path.{ap, ◌∙◌}
 use mathlib.Core.List.{List}
-use lib.ListN.{length, get_or, take, set}
-use lib.Seq.{take_all}
-use Rattle.lexer.specs.Filling.{write}
-use Rattle.capi.proofs.Telling.{write-long, write-more}
-use borrow.Author.Rules.{rules}
+use lib.ListN.{get_or, set}
+use Rattle.capi.proofs.Telling.{write-more}
 use Rattle.capi.proofs.tell.Goals as goal
 
 pub loop-i-preserved : goal.loop-i-preserved

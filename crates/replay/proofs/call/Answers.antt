@@ -10,7 +10,6 @@ use Rattle.aadl.specs.declared.Answer.{Answer}
 use Rattle.aadl.proofs.CallsRead.{tokens-answered, tokens-left_only, section-answered, tokens-left, events_left as left-by-section}
 use Rattle.replay_lines.specs.Records.{old_word, record_lines}
 use Rattle.replay.specs.Calls.{MakesCall, answer_of, events_left, called}
-use borrow.Author.Rules.{rules}
 use Rattle.replay.proofs.call.Goals as goal
 
 -- The answer and the words by how many words were lent.

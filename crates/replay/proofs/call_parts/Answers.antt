@@ -13,7 +13,6 @@ use Rattle.aadl.proofs.CallsRead.{tokens-answered, tokens-left_only}
 use Rattle.writing.proofs.WriteLaws.{wrote-same}
 use Rattle.replay_lines.specs.Records.{old_word, line}
 use Rattle.replay.specs.Calls.{parts_called}
-use borrow.Author.Rules.{rules}
 use Rattle.replay.proofs.call_parts.Goals as goal
 
 row : (text : List ℕ) (m i : ℕ) (ts us : List ℕ) (a : Answer) (n : Number) → ts ≡ replicate m old_word → a ≡ tokens_answer base text (length ts) →

@@ -12,7 +12,6 @@ use Rattle.writing.proofs.WriteLaws.{wrote-same}
 use Rattle.replay_lines.specs.Records.{old_word, tree_lines}
 use Rattle.replay.specs.Calls.{tree_called}
 use Rattle.replay.proofs.Filled.{long}
-use borrow.Author.Rules.{rules}
 use Rattle.replay.proofs.call_tree.Goals as goal
 
 module _ (text : List ℕ) (m n k : ℕ) (ts es rs : List ℕ) (f : ts ≡ replicate m old_word) (g : es ≡ replicate n old_word) (h : rs ≡ replicate k old_word) where

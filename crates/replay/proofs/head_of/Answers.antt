@@ -1,7 +1,6 @@
 -- The first number's test says which form it is, and so which numbers are read. Assumes nothing.
 use Prim.Native.Nat.{ℕ}
 use mathlib.Core.Path.{refl, sym, ap₂, ◌∙◌}
-use borrow.Author.Rules.{rules}
 use Rattle.replay.specs.Heads.{head_from, record_head}
 use Rattle.replay.proofs.head_of.Goals as goal
 

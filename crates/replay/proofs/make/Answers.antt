@@ -4,7 +4,6 @@ use borrow.Author.Tests.{eq-eqb, ne_eqb}
 use Rattle.writing.proofs.WriteLaws.{wrote-same}
 use Rattle.replay.specs.Heads.{tree, parts, value}
 use Rattle.replay.specs.Calls.{made}
-use borrow.Author.Rules.{rules}
 use Rattle.replay.proofs.make.Goals as goal
 
 pub returns-then-h-eq-TREE : goal.returns-then-h-eq-TREE

@@ -1,8 +1,7 @@
 -- The call, way by way (Calling): the section call refused, the verdict is a refusal, or it is a value. The words that the section call
 -- counted are within those lent, and are the text's. Assumes nothing.
 use native.Mathlib.Omega.{arith}
-use mathlib.Core.Path.{◌≡◌, sym, ap, subst, ◌∙◌}
-use lib.ListN.{take}
+use mathlib.Core.Path.{◌≡◌, sym, ap, subst}
 use lib.Seq.{length-take-le}
 use lib.IntN.{ℤ, pos}
 use mir.Syntax.{w64}
@@ -14,7 +13,6 @@ use Rattle.aadl.specs.Encoding.{words_for}
 use Rattle.aadl.specs.ValueCall.{with_value}
 use Rattle.aadl.specs.Promises.{ValueCalled}
 use Rattle.section.proofs.Unrefused.{all-passed, all-counted, tokens-fit, events-fit}
-use Rattle.value.specs.Verdicts.{WasRead}
 use Rattle.value.proofs.Calling.{called-refused, was_read, called-judged, called-valued}
 use Rattle.value.proofs.association_value_within.Goals as goal
 

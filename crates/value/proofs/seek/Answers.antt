@@ -1,10 +1,9 @@
 -- The words before the token come to its byte, so a parser there has the tokens before it behind it (section's Seeking). Assumes nothing.
 use Prim.Native.Nat.{ℕ}
 use native.Mathlib.Omega.{arith}
-use mathlib.Core.Path.{refl, sym, ap, ◌∙◌}
+use mathlib.Core.Path.{refl, ap, ◌∙◌}
 use mathlib.Core.List.{List}
 use lib.ListN.{take}
-use lib.Seq.{length-take-le}
 use Rattle.aadl.specs.Tokens.{total}
 use Rattle.section.proofs.WordsBack.{total-token_words}
 use Rattle.section.proofs.Seeking.{total-around, sought}
