@@ -163,7 +163,7 @@ fn reason(text: &[u8]) -> &str {
     }
 }
 
-// Writes a line to standard error: what failed, a colon and why. No error is kept where a write took no byte.
+// Writes a line to standard error: what failed, a colon and why. Where a write took no byte and no call before it failed, no error is kept.
 pub fn tell<R: Eprint>(rt: &R, what: &str, why: &Option<io::Error>) {
     let error = why.unwrap_or(io::Error::from(ErrorKind::WriteZero));
     let mut text = [0u8; 256];
