@@ -20,7 +20,7 @@ pub struct Quoted {
 }
 
 // A part of something, by places: where it begins, and the first place after it.
-#[derive(Clone, Copy)]
+#[derive(Clone, Copy, Default)]
 pub struct Span {
     pub begin: usize,
     pub end: usize,
@@ -28,7 +28,7 @@ pub struct Span {
 
 // A number at the front of some bytes: its kind, its length in bytes, where the base's digits and the inner digits stand, whether a closing `#` was
 // there, and whether an exponent was. Places count from the number's start.
-#[derive(Clone, Copy)]
+#[derive(Clone, Copy, Default)]
 pub struct Number {
     pub kind: u32,
     pub len: usize,
@@ -38,6 +38,31 @@ pub struct Number {
     pub exponent: bool,
 }
 
+// Why a call refuses a text, with the number that its answer has.
+#[derive(Clone, Copy, PartialEq, Eq)]
+pub enum Refusal {
+    // more bytes than the limit
+    TooLong = 1,
+    // a sequence that is no UTF-8
+    IllFormed = 2,
+    // a token without a word to stand in
+    NoTokenWord = 3,
+    // no `properties` in front
+    NoSection = 4,
+    // an event without words to stand in
+    NoEventWord = 5,
+    // an opener too many
+    TooDeep = 6,
+    // a node without a record to stand in
+    NoRecord = 7,
+    // a string that nothing closes
+    NotClosed = 8,
+    // no such association in a clean section, or one whose first value is no constant
+    NoConstant = 9,
+    // a value beyond the range
+    BeyondRange = 10,
+}
+
 // The limits of a call: most bytes of a text, and most openers that stand open at once.
 #[derive(Clone, Copy)]
 pub struct Limits {
@@ -45,8 +70,9 @@ pub struct Limits {
     pub openers: usize,
 }
 
-// What a call answers: the refusal's number and place (0 and 0 for none), the tokens, the non-trivia tokens taken, the events.
-#[derive(Clone, Copy)]
+// What a call answers: the refusal's number and place (0 and 0 for none), the tokens, the non-trivia tokens taken, the events. No Result: C lends five
+// numbers for it, and `is_clean`, `refused` and the calls' promises speak of an answer with any of them.
+#[derive(Clone, Copy, Default)]
 pub struct Answer {
     pub number: u32,
     pub place: usize,

@@ -7,9 +7,12 @@ use native.Mathlib.Nat.{sub-zero}
 use mathlib.Core.Path.{◌≡◌, refl, sym, ap, ◌∙◌}
 use mathlib.Core.Bool.{Bool, true, false, cond}
 use mathlib.Core.List.{List, [], ◌∷◌}
-use lib.ListN.{length, get_or, take, drop, length-drop, drop_of_length-le}
-use lib.Seq.{take_all, drop-cons, drop-drop}
-use Rattle.bands.specs.declared.Band.{Band}
+use lib.ListN.{length, get_or, take, drop, drop_of_length-le}
+use lib.Seq.{take_all, drop-cons}
+use Rattle.std.specs.declared.ops.Range.{Range}
+use Rattle.std.specs.List.{count_by, sum_by}
+use Rattle.std.proofs.lemmas.List.Sums.{sum_by-cons}
+use Rattle.aadl.specs.Tokens.{length_in, total}
 use Rattle.bands.specs.Bands.{within_band, tally, nth_within}
 
 -- WORD BY WORD ---------------------------------------------------------------------------------------------------------
@@ -17,21 +20,26 @@ use Rattle.bands.specs.Bands.{within_band, tally, nth_within}
 pub word_at : (ws : List ℕ) (i : ℕ) → i < length ws → drop i ws ≡ get_or ws i 0 ∷ drop (i + 1) ws
 word_at ws i h = drop-cons ws i 0 h ∙ ap (λ (n : ℕ). get_or ws i 0 ∷ drop n ws) (sym (add-one i))
 
+-- the sum of lengths, as a chain gives it
+pub total-sums : (ws : List ℕ) → total ws ≡ sum_by length_in ws
+total-sums [] = refl
+total-sums (w ∷ ws) = ap (λ (n : ℕ). length_in w + n) (total-sums ws) ∙ sym (sum_by-cons length_in w ws)
+
 cond_suc : (t : Bool) (n : ℕ) → cond t (suc n) n ≡ cond t 1 0 + n
 cond_suc true n = omega arith
 cond_suc false n = omega arith
 
-module _ (b : Band) where
+module _ (b : Range ℕ) where
   abbrev here : List ℕ → ℕ → Bool
   here ws i = within_band b (get_or ws i 0)
 
-  pub tally-more : (ws : List ℕ) (i : ℕ) → i < length ws → tally b (drop i ws) ≡ cond (here ws i) 1 0 + tally b (drop (i + 1) ws)
+  -- the count, as a chain gives it
+  pub tally-counts : (ws : List ℕ) → tally b ws ≡ count_by (within_band b) ws
   unfolding tally
-  tally-more ws i h = ap (tally b) (word_at ws i h) ∙ cond_suc (here ws i) (tally b (drop (i + 1) ws))
-
-  pub tally-end : (ws : List ℕ) (i : ℕ) → length ws ≤ i → tally b (drop i ws) ≡ 0
-  unfolding tally
-  tally-end ws i h = ap (tally b) (drop_of_length-le ws h)
+  tally-counts [] = refl
+  tally-counts (w ∷ ws) =
+      let one : ℕ → ℕ = λ (v : ℕ). cond (within_band b v) 1 0 in
+      cond_suc (within_band b w) (tally b ws) ∙ ap (λ (n : ℕ). one w + n) (tally-counts ws) ∙ sym (sum_by-cons one w ws)
 
   pub nth_end : (ws : List ℕ) (n i : ℕ) → length ws ≤ i → nth_within b n (drop i ws) ≡ 0
   unfolding nth_within
@@ -77,14 +85,12 @@ module _ (b : Band) where
   nth-behind (w ∷ ws) n (suc c) h l =
       behind-one (within_band b w) w n c (tally b (take c ws)) ws refl l (λ m g. nth-behind ws m c (omega (arith, h)) g)
 
-  -- The same of the words from a place up to an end.
-  pub nth-part : (ws : List ℕ) (n i e k : ℕ) → i ≤ e → e ≤ length ws → k ≡ tally b (take (e - i) (drop i ws)) → k ≤ n →
-      i + nth_within b n (drop i ws) ≡ e + nth_within b (n - k) (drop e ws)
-  nth-part ws n i e k h l q g =
-      let more = nth-behind (drop i ws) n (e - i) (omega (arith, length-drop i ws)) (omega (arith, q, g)) in
-      let sum : i + (e - i) ≡ e = omega arith in
-      let far : drop (e - i) (drop i ws) ≡ drop e ws = drop-drop (e - i) i ws ∙ ap (λ (m : ℕ). drop m ws) sum in
-      omega (arith, more, ap (λ (vs : List ℕ). nth_within b (n - tally b (take (e - i) (drop i ws))) vs) far, ap (λ (m : ℕ). nth_within b (n - m) (drop e ws)) q)
+  -- The same of a part and what is behind it.
+  pub nth-part : (ws part rest : List ℕ) (n c k : ℕ) → part ≡ take c ws → rest ≡ drop c ws → length rest + c ≡ length ws → k ≡ tally b part → k ≤ n →
+      nth_within b n ws ≡ c + nth_within b (n - k) rest
+  nth-part ws part rest n c k p r h q l =
+      let counted : k ≡ tally b (take c ws) = q ∙ ap (tally b) p in
+      rw (counted, r) (nth-behind ws n c (omega (arith, h)) (omega (arith, counted, l)))
 
   -- WHETHER IT IS THERE ------------------------------------------------------------------------------------------------
 

@@ -1,18 +1,18 @@
 -- Words in a band: how many they are, and where each stands. Assumes nothing.
 use Rattle.std.specs.Prelude.{ℕ, zero, suc, Bool, ◌&&◌, cond, List, [], ◌∷◌, leb, ltb}
-use Rattle.bands.specs.declared.Band.{Band}
+use Rattle.std.specs.declared.ops.Range.{Range}
 
-abbrev pub within_band : Band → ℕ → Bool
-within_band b w = leb b.from w && ltb w b.to
+abbrev pub within_band : Range ℕ → ℕ → Bool
+within_band b w = leb b.start w && ltb w b.end
 
-unfoldable pub tally : Band → List ℕ → ℕ
+unfoldable pub tally : Range ℕ → List ℕ → ℕ
 tally b [] = 0
 tally b (w ∷ ws) =
     let rest = tally b ws in
     cond (within_band b w) (suc rest) rest
 
 -- Which of some words is the one in the band with a number, from 0; as many as there are where there is none.
-unfoldable pub nth_within : Band → (number : ℕ) → List ℕ → ℕ
+unfoldable pub nth_within : Range ℕ → (number : ℕ) → List ℕ → ℕ
 nth_within b n [] = 0
 nth_within b zero (w ∷ ws) =
     let rest = nth_within b zero ws in

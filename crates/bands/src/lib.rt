@@ -2,87 +2,62 @@
 
 #![tactic(auto)]
 
-ghost use Rattle.std.specs.Prelude.{◌≡◌, ◌+◌, ◌≤◌, ◌<◌, cond, length, drop};
+ghost use Rattle.std.specs.Prelude.{◌≡◌, ◌<◌, cond, length};
+ghost use Rattle.std.specs.Option.{SomeIff};
 ghost use Rattle.aadl.specs.Tokens.{total};
 ghost use Rattle.bands.specs.Bands.{within_band, tally, nth_within};
 
 use codec::length_in;
-
-// The words from one up to another.
-#[derive(Clone, Copy)]
-pub struct Band {
-    pub from: u32,
-    pub to: u32,
-}
+use std::ops::Range;
 
 // How many words are gone over at once.
 const STRIDE: usize = 64;
 
-fn within(w: u32, b: Band) -> bool
-    ensures { result ≡ within_band b w }
-{
-    (b.from <= w) & (w < b.to)
-}
-
-fn one_if(b: bool) -> u32
-    ensures { result ≡ cond b 1 0 }
-{
-    if b {
-        return 1;
-    }
-    0
-}
-
-// How many words lie in a band.
-fn count(words: &[u32], b: Band) -> usize
+// How many words lie in a band: in the words' own 32 bits, so that more are counted at once.
+fn count(words: &[u32], band: &Range<u32>) -> usize
     requires { length words.now < 4294967296 }
-    ensures { result ≡ tally b words.now }
+    ensures { result ≡ tally band.now words.now }
 {
-    let mut n: u32 = 0;
-    let mut i = 0;
-    while i < words.len() {
-        n += one_if(within(words[i], b));
-        i += 1;
-    }
+    let one_within = |w: &u32| -> u32
+        ensures { result ≡ cond (within_band band.entry.now w.now) 1 0 }
+    { u32::from(band.contains(w)) };
+    let n: u32 = words.iter().map(one_within).sum();
     n as usize
 }
 
-// Which word, from a place on, is the one in a band with a number, from 0; as many as there are words where there is none.
-fn find_from(words: &[u32], b: Band, from: usize, number: usize) -> usize
-    requires { from ≤ length words.now }
-    ensures { result ≡ from + nth_within b number (drop from words.now) }
+// Which word is the one in a band with a number, from 0, word by word.
+fn find_in(words: &[u32], band: &Range<u32>, number: usize) -> Option<usize>
+    ensures { SomeIff result (nth_within band.now number words.now < length words.now) (nth_within band.now number words.now) }
 {
     let mut left = number;
-    let mut i = from;
-    while i < words.len() {
-        if within(words[i], b) {
+    for (i, w) in words.iter().enumerate() {
+        if band.contains(w) {
             if left == 0 {
-                return i;
+                return Some(i);
             }
             left -= 1;
         }
-        i += 1;
     }
-    i
+    None
 }
 
-// Which word is the one in a band with a number, from 0; as many as there are words where there is none.
-pub fn find(words: &[u32], b: Band, number: usize) -> usize
+// Which word is the one in a band with a number, from 0.
+pub fn find(words: &[u32], band: Range<u32>, number: usize) -> Option<usize>
     requires { length words.now < 4294967296 }
-    ensures { result ≡ nth_within b number words.now }
+    ensures { SomeIff result (nth_within band number words.now < length words.now) (nth_within band number words.now) }
 {
     let mut left = number;
-    let mut at = 0;
-    while STRIDE <= words.len() - at {
-        let end = at + STRIDE;
-        let n = count(&words[at..end], b);
+    let mut rest = words;
+    while let Some((stride, behind)) = rest.split_first_chunk::<STRIDE>() {
+        let n = count(stride, &band);
         if left < n {
-            return find_from(words, b, at, left);
+            break;
         }
         left -= n;
-        at = end;
+        rest = behind;
     }
-    find_from(words, b, at, left)
+    let passed = words.len() - rest.len();
+    find_in(rest, &band, left).map(|i| passed + i)
 }
 
 // The sum of the lengths in words.
@@ -90,11 +65,5 @@ pub fn sum_of_lengths(words: &[u32]) -> usize
     requires { total words.now < 4294967296 }
     ensures { result ≡ total words.now }
 {
-    let mut n = 0;
-    let mut i = 0;
-    while i < words.len() {
-        n += length_in(words[i]);
-        i += 1;
-    }
-    n
+    words.iter().map(|w| length_in(*w)).sum()
 }

@@ -1,12 +1,10 @@
--- Numbers set one after another, however many are lent; and the part of a text that a start and a length name is the token's text. Assumes
--- nothing.
-use Prim.Native.Nat.{ℕ, zero, suc, ◌+◌, ◌≤◌, ◌<◌}
-use native.Mathlib.Nat.{not-suc-le-zero, le_of_suc-le-suc}
+-- Numbers written over lent ones, however many are lent; and the part of a text that a start and a length name is the token's text. Assumes nothing.
+use Prim.Native.Nat.{ℕ, suc, ◌+◌, ◌≤◌, ◌<◌, min}
 use native.Mathlib.Omega.{arith}
 use mathlib.Core.Path.{◌≡◌, refl, ap, ap₂}
 use mathlib.Core.Bool.{Bool, true, false}
-use mathlib.Core.List.{List, [], ◌∷◌}
-use lib.ListN.{length, get_or, take, drop, set, length-drop}
+use mathlib.Core.List.{List, [], ◌∷◌, ◌++◌}
+use lib.ListN.{length, get_or, take, drop, length-drop}
 use lib.Seq.{length-take-le}
 use lib.Dec.{ltb, leb}
 use borrow.Author.Tests.{ltb-true, ltb-false, leb-true, leb-false}
@@ -15,20 +13,19 @@ use Rattle.aadl.proofs.TokenText.{text-none, text-past, text_at}
 use Rattle.lexer.specs.Filling.{write}
 use Rattle.capi.specs.Numbers.{text_start, part_of}
 
--- WRITTEN ONE BY ONE ---------------------------------------------------------------------------------------------------
+-- WRITTEN OVER -------------------------------------------------------------------------------------------------------
 
-pub write-long : (ns old : List ℕ) → length (write ns old) ≡ length old
-write-long [] old = refl
-write-long (n ∷ ns) [] = refl
-write-long (n ∷ ns) (o ∷ old) = ap suc (write-long ns old)
-
--- one more, whether it is lent or not
-pub write-more : (ns old : List ℕ) (i : ℕ) → i < length ns → set (write (take i ns) old) i (get_or ns i 0) ≡ write (take (suc i) ns) old
-write-more [] old i h = absurd (not-suc-le-zero h)
-write-more (n ∷ ns) [] zero h = refl
-write-more (n ∷ ns) (o ∷ old) zero h = refl
-write-more (n ∷ ns) [] (suc i) h = refl
-write-more (n ∷ ns) (o ∷ old) (suc i) h = ap (λ (l : List ℕ). n ∷ l) (write-more ns old i (le_of_suc-le-suc h))
+-- as many as are lent, before those that stay
+pub write-front : (ns old : List ℕ) (n : ℕ) → n ≡ min (length old) (length ns) → take n ns ++ drop n old ≡ write ns old
+write-front [] old n h =
+    let e : n ≡ 0 = omega arith in
+    rw e refl
+write-front (a ∷ ns) [] n h =
+    let e : n ≡ 0 = omega arith in
+    rw e refl
+write-front (a ∷ ns) (o ∷ old) n h =
+    let e : n ≡ suc (min (length old) (length ns)) = omega arith in
+    rw e (ap (λ (l : List ℕ). a ∷ l) (write-front ns old (min (length old) (length ns)) refl))
 
 -- A TOKEN'S TEXT -------------------------------------------------------------------------------------------------------
 

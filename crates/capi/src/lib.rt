@@ -3,7 +3,7 @@
 
 #![tactic(auto)]
 
-ghost use Rattle.std.specs.Prelude.{◌≡◌, cond, set};
+ghost use Rattle.std.specs.Prelude.{◌≡◌, cond};
 ghost use Rattle.aadl.specs.Limits.{base};
 ghost use Rattle.aadl.specs.Tokens.{from_token};
 ghost use Rattle.aadl.specs.NumberParts.{number_parts, PartsHold};
@@ -14,24 +14,12 @@ ghost use Rattle.capi.specs.Numbers.{numbers, six_in_a_row, Exported, clean_word
 use aadl::Answer;
 use codec::events_told;
 
-// Sets a number if it is lent.
-fn put(lent: &mut [usize], at: usize, n: usize)
-    ensures { lent.new ≡ set lent.old at n }
-{
-    if at < lent.len() {
-        lent[at] = n;
-    }
-}
-
 // Writes numbers over lent ones, as many as are lent.
 fn tell(lent: &mut [usize], numbers: &[usize])
     ensures { lent.new ≡ write numbers.now lent.old }
 {
-    let mut i = 0;
-    while i < numbers.len() {
-        put(lent, i, numbers[i]);
-        i += 1;
-    }
+    let count = lent.len().min(numbers.len());
+    lent[..count].copy_from_slice(&numbers[..count]);
 }
 
 // An answer's five numbers.
@@ -118,10 +106,7 @@ pub extern "C" fn gigboda_clean(taken: usize, tokens: &[u32], events: &[u32]) ->
         taken,
         events: events_told(events),
     };
-    if section::is_clean(counted, tokens, events) {
-        return 1;
-    }
-    0
+    u32::from(section::is_clean(counted, tokens, events))
 }
 
 // The text of a token, by its number: where it starts in the lent text and how long it is, into lent numbers. An exported function

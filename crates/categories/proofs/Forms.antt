@@ -16,7 +16,7 @@ use Rattle.aadl.specs.Kinds.{IN_KW, OUT_KW, PORT_KW, EVENT_KW, ACCESS_KW, PROVID
 use Rattle.aadl.specs.Symbols.{shown}
 use Rattle.aadl.specs.Section.{Rule, begun, numbers, node, heads, direction, component_category, component_forms, feature_forms, category_forms, category}
 use Rattle.syntax_kind.specs.Categories.{categories}
-use Rattle.parser.specs.declared.Parser.{Parser}
+use Rattle.parser.specs.Counters.{Counters}
 use Rattle.parser.specs.Input.{Input, END, nth}
 use Rattle.parser.specs.Reads.{stands}
 use Rattle.categories.proofs.Words.{begins-one, begins-two, ◌also◌, no_more, begins-any, follows, kinds-are, best_none, best-append, Alike, maybe-form}
@@ -44,7 +44,7 @@ unfolding categories
 no_category = refl
 
 -- The test whether a component's category begins.
-pub component-word : (inp : Input) (p : Parser) {x : ℕ} {r t : Bool} → x ≡ nth inp p 0 → r ≡ has categories x → r ≡ t → stands inp (ones categories) p ≡ t
+pub component-word : (inp : Input) (p : Counters) {x : ℕ} {r t : Bool} → x ≡ nth inp p 0 → r ≡ has categories x → r ≡ t → stands inp (ones categories) p ≡ t
 component-word inp p e f g = sym (kinds-are inp p categories no_category e) ∙ sym f ∙ g
 
 module _ (d : ℕ) where

@@ -9,16 +9,19 @@ use mathlib.Core.Option.{Option, none, some, none-ne-some}
 use lib.Dec.{eqb, ltb}
 use lib.ListN.{length}
 use borrow.Author.Tests.{eqb-true, eq-eqb}
-use Rattle.predictive.specs.Grammar.{Head, one, two, is, starts, at, has, Form, row, kinds_of, stand, longer, best, free, Part, tok, longest, seq, opt}
+use Rattle.predictive.specs.Grammar.{Head, one, two, is, starts, at, has, Form, row, kinds_of, stand as form-stands, longer, best, free, Part, tok, longest, seq, opt}
 use Rattle.predictive.specs.Reader.{ones, first, unmet, take_one, take_form, step, read}
 use Rattle.predictive.proofs.Tests.{never, and_l, and_r, or_true_l, or_cases}
 use Rattle.predictive.proofs.Heads.{at_end, at_ones, at-neither, among, among-absent}
 use Rattle.syntax_kind.proofs.KindSets.{joined, joined-has}
 use Rattle.aadl.specs.Section.{Rule, grammar}
-use Rattle.parser.specs.declared.Parser.{Parser}
+use Rattle.parser.specs.Counters.{Counters}
 use Rattle.parser.specs.Input.{Input, rest, END, ahead, nth}
-use Rattle.parser.specs.Reads.{stands, Read}
-use Rattle.parser.proofs.Join.{stands_at, became_nothing, became_same, r-same, r-seq}
+use Rattle.parser.specs.declared.Parser.{Parser}
+use Rattle.parser.specs.Reads.{stands}
+use Rattle.parser.specs.Parsers.{source, counters, stand, ReadsWithin}
+use Rattle.parser.proofs.Join.{stands_at, became_nothing, became_same}
+use Rattle.parser.proofs.Parsers.{same, r-same, r-seq}
 
 -- WHAT SYMBOLS BEGIN WITH ----------------------------------------------------------------------------------------------
 
@@ -60,7 +63,7 @@ follows l F ended next other (y ∷ ys) = go (eqb y l) refl
 
 -- TESTS ----------------------------------------------------------------------------------------------------------------
 
-pub kinds-are : (inp : Input) (p : Parser) (ks : List ℕ) {x : ℕ} → has ks END ≡ false → x ≡ nth inp p 0 → has ks x ≡ stands inp (ones ks) p
+pub kinds-are : (inp : Input) (p : Counters) (ks : List ℕ) {x : ℕ} → has ks END ≡ false → x ≡ nth inp p 0 → has ks x ≡ stands inp (ones ks) p
 unfolding nth stands
 kinds-are inp p ks h e = ap (has ks) e ∙ go (eqb p.stop 0) (rest inp p)
   where
@@ -70,11 +73,11 @@ kinds-are inp p ks h e = ap (has ks) e ∙ go (eqb p.stop 0) (rest inp p)
     go false xs = h
 
 -- the same where the tests are joined from the left, as code joins them
-pub joined-are : (inp : Input) (p : Parser) (k : ℕ) (ks : List ℕ) {x : ℕ} {t : Bool} → has (k ∷ ks) END ≡ false → x ≡ nth inp p 0 → joined (eqb x k) ks x ≡ t →
+pub joined-are : (inp : Input) (p : Counters) (k : ℕ) (ks : List ℕ) {x : ℕ} {t : Bool} → has (k ∷ ks) END ≡ false → x ≡ nth inp p 0 → joined (eqb x k) ks x ≡ t →
     stands inp (ones (k ∷ ks)) p ≡ t
 joined-are inp p k ks {x} h e f = sym (kinds-are inp p (k ∷ ks) h e) ∙ sym (joined-has (eqb x k) ks x) ∙ f
 
-pub stands-neither : (inp : Input) (hs gs : List Head) (p : Parser) → stands inp hs p ≡ false → stands inp gs p ≡ false → stands inp (hs ++ gs) p ≡ false
+pub stands-neither : (inp : Input) (hs gs : List Head) (p : Counters) → stands inp hs p ≡ false → stands inp gs p ≡ false → stands inp (hs ++ gs) p ≡ false
 unfolding stands
 stands-neither inp hs gs p = go (eqb p.stop 0)
   where
@@ -82,7 +85,7 @@ stands-neither inp hs gs p = go (eqb p.stop 0)
     go true d e = at-neither hs gs (rest inp p) d e
     go false d e = refl
 
-no_heads : (inp : Input) (p : Parser) → stands inp [] p ≡ false
+no_heads : (inp : Input) (p : Counters) → stands inp [] p ≡ false
 unfolding stands
 no_heads inp p = go (eqb p.stop 0)
   where
@@ -92,17 +95,17 @@ no_heads inp p = go (eqb p.stop 0)
 
 -- Heads that were tested one by one, and none stands.
 infixr 60 ◌nor◌
-pub data Absent (inp : Input) (p : Parser) : List Head → Type 0 where
+pub data Absent (inp : Input) (p : Counters) : List Head → Type 0 where
   nothing-else : Absent inp p []
   ◌nor◌ : {h : Head} {hs : List Head} → stands inp (h ∷ []) p ≡ false → Absent inp p hs → Absent inp p (h ∷ hs)
 
-pub absent : {inp : Input} {p : Parser} {hs : List Head} → Absent inp p hs → stands inp hs p ≡ false
+pub absent : {inp : Input} {p : Counters} {hs : List Head} → Absent inp p hs → stands inp hs p ≡ false
 absent {inp} {p} nothing-else = no_heads inp p
 absent {inp} {p} (◌nor◌ {h} {hs} e es) = stands-neither inp (h ∷ []) hs p e (absent es)
 
 -- WHICH FORM STANDS ----------------------------------------------------------------------------------------------------
 
--- Where none of the heads stands, the kinds do not stand in a row: their first or their first two are among the heads.
+-- Where none of the heads stands, the kinds do not form-stands in a row: their first or their first two are among the heads.
 abbrev barred : List Head → List ℕ → Bool
 barred hs [] = false
 barred hs (k ∷ []) = among hs (one k)
@@ -112,25 +115,25 @@ abbrev pub all-barred : List Head → List Form → Bool
 all-barred hs [] = true
 all-barred hs (c ∷ cs) = barred hs (kinds_of c) && all-barred hs cs
 
-stand-one : (k : ℕ) (ks xs : List ℕ) → starts (one k) xs ≡ false → stand (k ∷ ks) xs ≡ false
-stand-one k ks [] e = refl
-stand-one k ks (x ∷ xs) e = rw e refl
+form-stands-one : (k : ℕ) (ks xs : List ℕ) → starts (one k) xs ≡ false → form-stands (k ∷ ks) xs ≡ false
+form-stands-one k ks [] e = refl
+form-stands-one k ks (x ∷ xs) e = rw e refl
 
-stand-two : (k l : ℕ) (ks xs : List ℕ) → starts (two k l) xs ≡ false → stand (k ∷ l ∷ ks) xs ≡ false
-stand-two k l ks [] e = refl
-stand-two k l ks (x ∷ xs) e = go (eqb x k) e
+form-stands-two : (k l : ℕ) (ks xs : List ℕ) → starts (two k l) xs ≡ false → form-stands (k ∷ l ∷ ks) xs ≡ false
+form-stands-two k l ks [] e = refl
+form-stands-two k l ks (x ∷ xs) e = go (eqb x k) e
   where
-    go : (t : Bool) → (t && is l xs) ≡ false → (t && stand (l ∷ ks) xs) ≡ false
-    go true d = stand-one l ks xs d
+    go : (t : Bool) → (t && is l xs) ≡ false → (t && form-stands (l ∷ ks) xs) ≡ false
+    go true d = form-stands-one l ks xs d
     go false d = refl
 
-barred-absent : (hs : List Head) (ks xs : List ℕ) → barred hs ks ≡ true → at hs xs ≡ false → stand ks xs ≡ false
+barred-absent : (hs : List Head) (ks xs : List ℕ) → barred hs ks ≡ true → at hs xs ≡ false → form-stands ks xs ≡ false
 barred-absent hs [] xs b e = never b
-barred-absent hs (k ∷ []) xs b e = stand-one k [] xs (among-absent hs (one k) xs b e)
+barred-absent hs (k ∷ []) xs b e = form-stands-one k [] xs (among-absent hs (one k) xs b e)
 barred-absent hs (k ∷ l ∷ ls) xs b e =
     ⊎_elim
-    (λ a. stand-one k (l ∷ ls) xs (among-absent hs (one k) xs a e))
-    (λ a. stand-two k l ls xs (among-absent hs (two k l) xs a e))
+    (λ a. form-stands-one k (l ∷ ls) xs (among-absent hs (one k) xs a e))
+    (λ a. form-stands-two k l ls xs (among-absent hs (two k l) xs a e))
     (or_cases (among hs (one k)) (among hs (two k l)) b)
 
 pub best_none : (hs : List Head) (cs : List Form) (xs : List ℕ) → all-barred hs cs ≡ true → at hs xs ≡ false → best cs xs ≡ none
@@ -152,7 +155,7 @@ longer-some c (some d) e = go (ltb (length (kinds_of c)) (length (kinds_of d))) 
 pub best-append : (cs ds : List Form) (xs : List ℕ) → best cs xs ≡ none → best (cs ++ ds) xs ≡ best ds xs
 unfolding best
 best-append [] ds xs e = refl
-best-append (c ∷ cs) ds xs e = go (stand (kinds_of c) xs) (best cs xs) e (λ q. best-append cs ds xs q)
+best-append (c ∷ cs) ds xs e = go (form-stands (kinds_of c) xs) (best cs xs) e (λ q. best-append cs ds xs q)
   where
     go : (t : Bool) (o : Option Form) → cond t (longer c o) o ≡ none → (o ≡ none → best (cs ++ ds) xs ≡ best ds xs) →
         cond t (longer c (best (cs ++ ds) xs)) (best (cs ++ ds) xs) ≡ best ds xs
@@ -181,29 +184,35 @@ maybe-form hs cs d k a f xs e n = go (at (one k ∷ []) xs) refl
     go true q = rw q (word-form cs d k f xs q n)
     go false q = rw (q, best_none (hs ++ one k ∷ []) cs xs a (at-neither hs (one k ∷ []) xs e q)) refl
 
-module _ {inp : Input} {d : ℕ} {p : Parser} {b : List ℕ} where
+module _ {d : ℕ} {p : Parser} where
   -- One part is read as the other: where one of the heads stands, where none does, or both.
-  module _ {P Q : Part Rule} (hs : List Head) {r : Parser} {c : List ℕ} where
-    pub r-where : ((xs : List ℕ) → at hs xs ≡ true → Alike d P Q xs) → stands inp hs p ≡ true → Read inp d P p b r c → Read inp d Q p b r c
-    r-where f e x = r-same (λ n h. f (rest inp p) (stands_at inp hs p e h) n) x
+  module _ {P Q : Part Rule} (hs : List Head) {r : Parser} where
+    pub r-where : ((xs : List ℕ) → at hs xs ≡ true → Alike d P Q xs) → stand hs p ≡ true → ReadsWithin d P p r → ReadsWithin d Q p r
+    r-where f e x = r-same (λ n h. f (rest (source p.tokens) (counters p)) (stands_at (source p.tokens) hs (counters p) e h) n) x
 
-    pub r-unless : ((xs : List ℕ) → at hs xs ≡ false → Alike d P Q xs) → stands inp hs p ≡ false → Read inp d P p b r c → Read inp d Q p b r c
-    r-unless f e x = r-same (λ n h. f (rest inp p) (stands_at inp hs p e h) n) x
+    pub r-unless : ((xs : List ℕ) → at hs xs ≡ false → Alike d P Q xs) → stand hs p ≡ false → ReadsWithin d P p r → ReadsWithin d Q p r
+    r-unless f e x = r-same (λ n h. f (rest (source p.tokens) (counters p)) (stands_at (source p.tokens) hs (counters p) e h) n) x
 
-    pub r-where_unless : (gs : List Head) → ((xs : List ℕ) → at hs xs ≡ true → at gs xs ≡ false → Alike d P Q xs) → stands inp hs p ≡ true →
-        stands inp gs p ≡ false → Read inp d P p b r c → Read inp d Q p b r c
-    r-where_unless gs f e g x = r-same (λ n h. f (rest inp p) (stands_at inp hs p e h) (stands_at inp gs p g h) n) x
+    pub r-where_unless : (gs : List Head) → ((xs : List ℕ) → at hs xs ≡ true → at gs xs ≡ false → Alike d P Q xs) → stand hs p ≡ true →
+        stand gs p ≡ false → ReadsWithin d P p r → ReadsWithin d Q p r
+    r-where_unless gs f e g x =
+        r-same (λ n h. f (rest (source p.tokens) (counters p)) (stands_at (source p.tokens) hs (counters p) e h) (stands_at (source p.tokens) gs (counters p) g h) n) x
 
   -- No form is read where none of the heads stands.
-  pub r-no_form : (hs : List Head) (cs : List Form) → all-barred hs cs ≡ true → stands inp hs p ≡ false → Read inp d (longest cs) p b p b
+  pub r-no_form : (hs : List Head) (cs : List Form) → all-barred hs cs ≡ true → stand hs p ≡ false → ReadsWithin d (longest cs) p p
   unfolding read step take_form
   r-no_form hs cs a e =
-      record { did = λ n l. became_same (λ h. sym (rw (best_none hs cs (rest inp p) a (stands_at inp hs p e h)) refl)) became_nothing }
+      let inp = source p.tokens in
+      record {
+        did = record {
+          did = λ n l. became_same (λ h. sym (rw (best_none hs cs (rest inp (counters p)) a (stands_at inp hs (counters p) e h)) refl)) became_nothing;
+        };
+        same = same;
+      }
 
 -- A form of two words.
-pub r-pair : {inp : Input} {d : ℕ} (cs : List Form) (k l : ℕ) {p : Parser} {b : List ℕ} {q : Parser} {c : List ℕ} {r : Parser} {e : List ℕ} →
-    ((ys : List ℕ) → best cs (k ∷ l ∷ ys) ≡ some (row (k ∷ l ∷ []))) → stands inp (two k l ∷ []) p ≡ true →
-    Read inp d (tok unmet (k ∷ [])) p b q c → Read inp d (tok unmet (l ∷ [])) q c r e → Read inp d (longest cs) p b r e
+pub r-pair : {d : ℕ} (cs : List Form) (k l : ℕ) {p q r : Parser} → ((ys : List ℕ) → best cs (k ∷ l ∷ ys) ≡ some (row (k ∷ l ∷ []))) →
+    stand (two k l ∷ []) p ≡ true → ReadsWithin d (tok unmet (k ∷ [])) p q → ReadsWithin d (tok unmet (l ∷ [])) q r → ReadsWithin d (longest cs) p r
 unfolding read step take_one take_form
 r-pair {d = d} cs k l f h x y = r-where (two k l ∷ []) alike h (r-seq x y)
   where

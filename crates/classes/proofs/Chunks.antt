@@ -2,15 +2,17 @@
 -- chunks are passed one by one; and bytes below 128 are well-formed one by one. By induction over the bytes. Assumes nothing.
 use Prim.Native.Nat.{ℕ, zero, suc, ◌+◌, ◌*◌, ◌/◌, ◌≤◌, ◌<◌, zero-le, suc-le-suc}
 use native.Mathlib.Nat.{zero-add, suc-add, add_assoc, le_of_suc-le-suc, not-suc-le-zero}
-use native.Mathlib.Numerals.{add-one}
+use native.Mathlib.Numerals.{one-add}
 use native.Mathlib.Omega.{arith}
 use mathlib.Core.Path.{◌≡◌, refl, sym, ap, ◌∙◌}
-use mathlib.Core.Bool.{Bool, true, false, not, ◌&&◌, ◌||◌, and-true, or_assoc, or-false}
+use mathlib.Core.Bool.{Bool, true, false, not, ◌&&◌, ◌||◌, cond, and-true, or_assoc, or-false}
 use mathlib.Core.List.{List, [], ◌∷◌}
-use lib.ListN.{length, get_or, take, drop, drop_of_length-le, length-drop}
-use lib.Seq.{drop-cons, drop-drop}
+use lib.ListN.{length, take, drop, length-drop}
+use lib.Seq.{drop-drop}
 use lib.Dec.{leb, eqb}
 use borrow.Author.Tests.{leb-false, leb-true, le-leb, eq-eqb, ne_eqb, eqb-true, eqb-false}
+use Rattle.std.specs.List.{fold, list_any, take_while, prefix_len}
+use Rattle.std.proofs.lemmas.List.Folds.{length-prefix_len}
 use Rattle.predictive.specs.Grammar.{has}
 use Rattle.predictive.proofs.Tests.{never, and_both, or_l, or_r}
 use Rattle.aadl.specs.Bytes.{run, run_end}
@@ -22,18 +24,34 @@ use Rattle.classes.specs.Search.{any, sought, unsought, other_than, chunks_end}
 
 -- TESTS OVER A PART ----------------------------------------------------------------------------------------------------
 
-module _ (p : ℕ → Bool) (bs : List ℕ) (i : ℕ) (f : Bool) where
-  pub any-more : i < length bs → (f || any p (drop i bs)) ≡ ((f || p (get_or bs i 0)) || any p (drop (i + 1) bs))
-  any-more h = rw (drop-cons bs i 0 h, add-one) (sym (or_assoc f (p (get_or bs i 0)) (any p (drop (suc i) bs))))
+eqb_sym : (a b : ℕ) → eqb a b ≡ eqb b a
+eqb_sym a b = go (eqb b a) refl
+  where
+    go : (t : Bool) → eqb b a ≡ t → eqb a b ≡ t
+    go true e = eq-eqb a b (sym (eqb-true b a e))
+    go false e = ne_eqb a b (λ q. eqb-false b a e (sym q))
 
-  pub any-end : length bs ≤ i → (f || any p (drop i bs)) ≡ f
-  any-end h = rw (drop_of_length-le bs h) (or-false f)
+pub folded-any : (p : ℕ → Bool) (f : Bool) (bs : List ℕ) → fold (λ t b. t || p b) f bs ≡ (f || any p bs)
+folded-any p f [] = sym (or-false f)
+folded-any p f (b ∷ bs) = folded-any p (f || p b) bs ∙ or_assoc f (p b) (any p bs)
+
+pub any_has : (x : ℕ) (bs : List ℕ) → list_any (λ b. eqb b x) bs ≡ has bs x
+any_has x [] = refl
+any_has x (b ∷ bs) = λ i. eqb_sym b x i || any_has x bs i
 
 or_rest : (s t : Bool) → (s || t) ≡ true → not s ≡ true → t ≡ true
 or_rest true t e d = never d
 or_rest false t e d = e
 
 -- SKIPPING -------------------------------------------------------------------------------------------------------------
+
+pub taken-run : (p : ℕ → Bool) (bs : List ℕ) → length (take_while p bs) ≡ run p bs
+unfolding run
+taken-run p bs = length-prefix_len p bs ∙ counted bs
+  where
+    counted : (bs : List ℕ) → prefix_len p bs ≡ run p bs
+    counted [] = refl
+    counted (b ∷ bs) = ap (λ (k : ℕ). cond (p b) k 0) (one-add (prefix_len p bs) ∙ ap suc (counted bs))
 
 module _ (p : ℕ → Bool) where
   -- none among the first n
@@ -109,24 +127,6 @@ not_both false t f = refl
 one-between : (k b : ℕ) (t : Bool) → eqb b k ≡ t → (leb k b && leb b k) ≡ t
 one-between k b true e = and_both (leb k b) (leb b k) (le-leb k b (omega (arith, eqb-true b k e))) (le-leb b k (omega (arith, eqb-true b k e)))
 one-between k b false e = not_both (leb k b) (leb b k) (λ l m. eqb-false b k e (omega (arith, leb-true k b l, leb-true b k m)))
-
-eqb_sym : (a b : ℕ) → eqb a b ≡ eqb b a
-eqb_sym a b = go (eqb b a) refl
-  where
-    go : (t : Bool) → eqb b a ≡ t → eqb a b ≡ t
-    go true e = eq-eqb a b (sym (eqb-true b a e))
-    go false e = ne_eqb a b (λ q. eqb-false b a e (sym q))
-
--- one byte is sought
-pub any-one : (x : ℕ) → x < 255 → (bs : List ℕ) → any (sought x x) bs ≡ has bs x
-any-one x h bs = go bs
-  where
-    bound : eqb x 255 ≡ false
-    bound = ne_eqb x 255 (λ e. absurd (omega (arith, e)))
-
-    go : (bs : List ℕ) → any (sought x x) bs ≡ has bs x
-    go [] = refl
-    go (b ∷ bs) = rw (bound, one-between x b (eqb x b) (eqb_sym b x), go bs) refl
 
 -- a run of what is not x to x
 other-run : (x : ℕ) → eqb x 255 ≡ false → (bs : List ℕ) → run (unsought x x) bs ≡ run (other_than x) bs

@@ -1,41 +1,27 @@
--- Rows of table 3-7 by the bytes at places: past the end a byte reads as 0, which only a row that begins at 0 could take for one of
--- its own, so that the first range wants a test of the length and a later one does not. Assumes nothing.
-use mathlib.Core.Path.{◌≡◌, refl, sym, ap, ◌∙◌}
-use mathlib.Core.Bool.{Bool, true, false, ◌&&◌, ◌||◌, cond, and-true, and-false, and_assoc}
-use mathlib.Core.List.{List, [], ◌∷◌}
-use Prim.Native.Nat.{ℕ, suc, ◌<◌, zero-le, suc-le-suc}
+-- Rows of table 3-7: too few bytes do not fit a row, and of others each is compared with the range at its place. Assumes nothing.
+use mathlib.Core.Path.{◌≡◌, refl, ap, ◌∙◌}
+use mathlib.Core.Bool.{Bool, true, false, ◌&&◌, ◌||◌, cond}
+use mathlib.Core.List.{List, [], ◌∷◌, map}
+use Rattle.std.specs.List.{list_all, zip}
+use Prim.Native.Nat.{ℕ, ◌≤◌, ◌<◌}
+use native.Mathlib.Nat.{le_of_suc-le-suc, not-suc-le-zero}
 use lib.ListN.{length, get_or}
-use lib.Dec.{leb, leb-zero}
-use borrow.Author.Tests.{le-leb, lt-leb}
-use Rattle.predictive.proofs.Tests.{and_false_l}
-use Rattle.aadl.specs.Bytes.{peek, within}
+use lib.Dec.{leb}
+use Rattle.predictive.proofs.Tests.{and_false_r}
 use Rattle.aadl.specs.Utf8.{Range, ◌to◌, table_3_7, fits, sequence}
 
-pub fits_one : (high : ℕ) (bs : List ℕ) → fits (0 to high ∷ []) bs ≡ (leb 1 (length bs) && leb (peek bs 0) high)
-fits_one high [] = refl
-fits_one high (b ∷ bs) = rw (leb-zero b, le-leb 1 (suc (length bs)) (suc-le-suc zero-le)) (and-true (leb b high))
+abbrev pub as_ranges : List (ℕ × ℕ) → List Range
+as_ranges rs = map (λ r. r.0 to r.1) rs
 
-pub fits-two : (low high least most : ℕ) (bs : List ℕ)
-    → fits (low to high ∷ least to most ∷ []) bs ≡ ((leb 2 (length bs) && within low high (peek bs 0)) && within least most (peek bs 1))
-fits-two low high least most [] = refl
-fits-two low high least most (a ∷ []) = and-false (within low high a)
-fits-two low high least most (a ∷ b ∷ bs) =
-    rw (le-leb 2 (suc (suc (length bs))) (suc-le-suc (suc-le-suc zero-le)))
-    (ap (λ (t : Bool). within low high a && t) (and-true (within least most b)))
+pub fits-long : (rs : List (ℕ × ℕ)) (bs : List ℕ) → length rs ≤ length bs → list_all (λ p. leb p.0.0 p.1 && leb p.1 p.0.1) (zip rs bs) ≡ fits (as_ranges rs) bs
+fits-long [] bs h = refl
+fits-long (r ∷ rs) [] h = absurd (not-suc-le-zero h)
+fits-long (r ∷ rs) (b ∷ bs) h = ap (λ (t : Bool). (leb r.0 b && leb b r.1) && t) (fits-long rs bs (le_of_suc-le-suc h))
 
--- a row with one more range at its end
-abbrev pub then : List Range → Range → List Range
-then [] r = r ∷ []
-then (q ∷ qs) r = q ∷ then qs r
-
-pub fits-then : (row : List Range) (low high : ℕ) → 0 < low → (bs : List ℕ)
-    → fits (then row (low to high)) bs ≡ (fits row bs && within low high (peek bs (length row)))
-fits-then [] low high h [] = sym (and_false_l (leb low 0) (leb 0 high) (lt-leb low 0 h))
-fits-then [] low high h (b ∷ bs) = and-true (within low high b)
-fits-then (l to u ∷ qs) low high h [] = refl
-fits-then (l to u ∷ qs) low high h (b ∷ bs) =
-    ap (λ (t : Bool). within l u b && t) (fits-then qs low high h bs)
-    ∙ sym (and_assoc (within l u b) (fits qs bs) (within low high (peek bs (length qs))))
+pub fits-short : (rs : List (ℕ × ℕ)) (bs : List ℕ) → length bs < length rs → fits (as_ranges rs) bs ≡ false
+fits-short [] bs h = absurd (not-suc-le-zero h)
+fits-short (r ∷ rs) [] h = refl
+fits-short (r ∷ rs) (b ∷ bs) h = and_false_r (leb r.0 b && leb b r.1) _ (fits-short rs bs (le_of_suc-le-suc h))
 
 -- The row of a number, from 0 on, fits.
 abbrev pub fit : ℕ → List ℕ → Bool

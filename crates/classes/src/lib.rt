@@ -1,16 +1,14 @@
-// Bytes: their classes by one table, runs of them, and well-formed UTF-8 sequences: what the scanners test and skip. The tables are lent by
-// the caller, who copies them once per call: reading a `const` array builds it anew.
+// Bytes: their classes by one table, runs of them, and well-formed UTF-8 sequences: what the scanners test and skip.
 
 #![tactic(auto)]
 
-ghost use Rattle.std.specs.Prelude.{◌≡◌, not, [], ◌∷◌, ◌≤◌, ◌<◌, max, length, drop};
+ghost use Rattle.std.specs.Prelude.{◌≡◌, ◌&&◌, leb, take_while, zip, map, not, [], ◌∷◌, ◌≤◌, ◌<◌, max, length, drop};
+ghost use Rattle.std.specs.List.{list_all};
 ghost use Rattle.predictive.specs.Grammar.{has};
 ghost use Rattle.aadl.specs.Bytes.{peek as byte_at, run_end};
 ghost use Rattle.aadl.specs.Utf8.{◌to◌, fits, sequence};
-ghost use Rattle.classes.specs.Classes.{lead_of, lead_table, class_table, member};
+ghost use Rattle.classes.specs.Classes.{lead_of, member};
 ghost use Rattle.classes.specs.Search.{any, sought, unsought, other_than, chunks_end};
-
-use syntax_kind::{wide, wide32};
 
 // The classes, one bit each: those of aadl's Bytes by their names there (WORD: `is_ident_continue`), and bytes that stand second in a
 // mark or in `--`.
@@ -31,7 +29,7 @@ pub const EXPONENTS: u8 = 64;
 pub const SECOND: u8 = 128;
 
 // The classes of each byte.
-const CLASSES: [u8; 256] = *b"\x00\x00\x00\x00\x00\x00\x00\x00\x00\x01\x01\x00\x00\x01\x00\x00\
+static CLASSES: [u8; 256] = *b"\x00\x00\x00\x00\x00\x00\x00\x00\x00\x01\x01\x00\x00\x01\x00\x00\
     \x00\x00\x00\x00\x00\x00\x00\x00\x00\x00\x00\x00\x00\x00\x00\x00\
     \x01\x00\x00\x00\x00\x00\x00\x00\x00\x00\x80\x00\x00\x80\x90\x00\
     \x3e\x3e\x3e\x3e\x3e\x3e\x3e\x3e\x3e\x3e\x80\x00\x00\x80\x80\x00\
@@ -53,7 +51,7 @@ pub const BEGINS_OTHERS: u32 = 64;
 
 // What a token begins with, by its first byte: WHITESPACE, IDENT, INTEGER_LIT and STRING_LIT; the kind of a mark that no other mark
 // begins with, BEGINS_OTHERS more for one that others begin with; 0 for any other byte.
-const LEADS: [u8; 256] = *b"\x00\x00\x00\x00\x00\x00\x00\x00\x00\x03\x03\x00\x00\x03\x00\x00\
+static LEADS: [u8; 256] = *b"\x00\x00\x00\x00\x00\x00\x00\x00\x00\x03\x03\x00\x00\x03\x00\x00\
     \x00\x00\x00\x00\x00\x00\x00\x00\x00\x00\x00\x00\x00\x00\x00\x00\
     \x03\x00\x20\x1b\x00\x00\x00\x00\x0a\x0b\x56\x54\x07\x55\x48\x17\
     \x1e\x1e\x1e\x1e\x1e\x1e\x1e\x1e\x1e\x1e\x46\x05\x00\x00\x00\x00\
@@ -70,56 +68,46 @@ const LEADS: [u8; 256] = *b"\x00\x00\x00\x00\x00\x00\x00\x00\x00\x03\x03\x00\x00
     \x00\x00\x00\x00\x00\x00\x00\x00\x00\x00\x00\x00\x00\x00\x00\x00\
     \x00\x00\x00\x00\x00\x00\x00\x00\x00\x00\x00\x00\x00\x00\x00\x00";
 
-// The table of classes, to be lent.
-pub fn class_table() -> [u8; 256]
-    ensures { result ≡ class_table }
-{
-    CLASSES
-}
-
-// The table of what first bytes say, to be lent.
-pub fn lead_table() -> [u8; 256]
-    ensures { result ≡ lead_table }
-{
-    LEADS
-}
-
 // The byte at a place, or 0 past the end.
 pub fn peek(s: &[u8], i: usize) -> u8
     ensures { result ≡ byte_at s.now i }
 {
-    if i < s.len() { s[i] } else { 0 }
+    s.get(i).copied().unwrap_or(0)
 }
 
 // What a token begins with whose first byte this is.
-pub fn lead(b: u8, leads: &[u8; 256]) -> u32
-    requires { leads.now ≡ lead_table }
+pub fn lead(b: u8) -> u32
     ensures { result ≡ lead_of b }
 {
-    wide32(leads[wide(b)])
+    u32::from(LEADS[usize::from(b)])
 }
 
 // Whether a byte is of a class.
-pub fn in_class(b: u8, class: u8, classes: &[u8; 256]) -> bool
-    requires { classes.now ≡ class_table }
+pub fn in_class(b: u8, class: u8) -> bool
     ensures { result ≡ member class b }
 {
-    classes[wide(b)] & class != 0
+    CLASSES[usize::from(b)] & class != 0
+}
+
+// The bytes from a place on; none where it is past the end.
+fn rest(s: &[u8], from: usize) -> &[u8]
+    ensures { result.now ≡ drop from s.now }
+{
+    s.get(from..).unwrap_or(&[])
+}
+
+// How many bytes of a class stand at the front.
+pub fn run(s: &[u8], class: u8) -> usize
+    ensures { result ≡ length (take_while (member class) s.now) }
+{
+    s.iter().take_while(|b| in_class(**b, class)).count()
 }
 
 // The place after the run of a class that begins at a place.
-pub fn run_end(s: &[u8], from: usize, class: u8, classes: &[u8; 256]) -> usize
-    requires { classes.now ≡ class_table }
-    ensures { (result ≡ run_end (member class) s.now from) × (result ≤ max from (length s.now)) }
+pub fn run_end(s: &[u8], from: usize, class: u8) -> usize
+    ensures { (result ≡ run_end (member class) s.now from) × (result ≤ max from (length s.now)) × (from ≤ result) }
 {
-    let mut i = from;
-    while i < s.len() {
-        if !in_class(s[i], class, classes) {
-            return i;
-        }
-        i += 1;
-    }
-    i
+    from + run(rest(s, from), class)
 }
 
 // Whether a byte is one of a range.
@@ -133,21 +121,15 @@ fn between(b: u8, least: u8, most: u8) -> bool
 fn any_between(s: &[u8], least: u8, most: u8) -> bool
     ensures { result ≡ any (sought least most) s.now }
 {
-    let mut found = false;
-    let mut i = 0;
-    while i < s.len() {
-        found = found | between(s[i], least, most);
-        i += 1;
-    }
-    found
+    s.iter()
+        .fold(false, |found, b| found | between(*b, least, most))
 }
 
 // Whether a byte stands in a part.
 pub fn has_byte(s: &[u8], x: u8) -> bool
-    requires { x < 255 }
     ensures { result ≡ has s.now x }
 {
-    any_between(s, x, x)
+    s.contains(&x)
 }
 
 // Whether all bytes are below 128.
@@ -157,7 +139,8 @@ pub fn is_ascii(s: &[u8]) -> bool
     !any_between(s, 128, 255)
 }
 
-// Past the whole chunks of bytes in which none of a range stands.
+// Past the whole chunks of bytes in which none of a range stands. By hand: of `chunks_exact(16).take_while(..).count()` it was not proved that each
+// chunk before the count has no such byte.
 fn skip_chunks(s: &[u8], from: usize, least: u8, most: u8) -> usize
     requires { from ≤ length s.now }
     ensures { (result ≡ chunks_end (unsought least most) s.now from) × (result ≤ length s.now) }
@@ -172,30 +155,29 @@ fn skip_chunks(s: &[u8], from: usize, least: u8, most: u8) -> usize
     i
 }
 
+// How many bytes of none of a range stand at the front.
+fn gap(s: &[u8], least: u8, most: u8) -> usize
+    ensures { result ≡ length (take_while (unsought least most) s.now) }
+{
+    s.iter().take_while(|b| !between(**b, least, most)).count()
+}
+
 // The next byte of a range from a place on, or the length.
 fn next_between(s: &[u8], from: usize, least: u8, most: u8) -> usize
     requires { from ≤ length s.now }
-    ensures { (result ≡ run_end (unsought least most) s.now from) × (result ≤ length s.now) }
+    ensures { (result ≡ run_end (unsought least most) s.now from) × (result ≤ length s.now) × (from ≤ result) }
 {
-    if from < s.len() {
-        if between(s[from], least, most) {
-            return from;
-        }
+    if from < s.len() && between(s[from], least, most) {
+        return from;
     }
-    let mut i = skip_chunks(s, from, least, most);
-    while i < s.len() {
-        if between(s[i], least, most) {
-            return i;
-        }
-        i += 1;
-    }
-    i
+    let i = skip_chunks(s, from, least, most);
+    i + gap(rest(s, i), least, most)
 }
 
 // The next place of a byte from a place on, or the length.
 pub fn next_byte(s: &[u8], from: usize, x: u8) -> usize
     requires { (from ≤ length s.now) × (x < 255) }
-    ensures { (result ≡ run_end (other_than x) s.now from) × (result ≤ length s.now) }
+    ensures { (result ≡ run_end (other_than x) s.now from) × (result ≤ length s.now) × (from ≤ result) }
 {
     next_between(s, from, x, x)
 }
@@ -203,56 +185,48 @@ pub fn next_byte(s: &[u8], from: usize, x: u8) -> usize
 // The next byte of 128 or more from a place on, or the length.
 pub fn skip_ascii(s: &[u8], from: usize) -> usize
     requires { from ≤ length s.now }
-    ensures { (result ≡ run_end (unsought 128 255) s.now from) × (result ≤ length s.now) }
+    ensures { (result ≡ run_end (unsought 128 255) s.now from) × (result ≤ length s.now) × (from ≤ result) }
 {
     next_between(s, from, 128, 255)
 }
 
-// Whether a row of table 3-7 with two ranges fits: the first byte from low to high, the second from least to most.
-fn fits_two(s: &[u8], low: u8, high: u8, least: u8, most: u8) -> bool
-    ensures { result ≡ fits (low to high ∷ least to most ∷ []) s.now }
+// The range of each later byte in most rows of table 3-7.
+const LATER: (u8, u8) = (0x80, 0xBF);
+
+// Whether each byte is in the range at its place.
+fn in_ranges(row: &[(u8, u8)], s: &[u8]) -> bool
+    ensures { result ≡ list_all (λ p. leb p.0.0 p.1 && leb p.1 p.0.1) (zip row.now s.now) }
 {
-    let a = peek(s, 0);
-    let b = peek(s, 1);
-    (2 <= s.len()) & ((low <= a) & (a <= high)) & ((least <= b) & (b <= most))
+    row.iter().zip(s).all(|(r, b)| (r.0 <= *b) & (*b <= r.1))
 }
 
-// Whether a row with three ranges fits, the last one that of every later byte.
-fn fits_three(s: &[u8], low: u8, high: u8, least: u8, most: u8) -> bool
-    ensures { result ≡ fits (low to high ∷ least to most ∷ 0x80 to 0xBF ∷ []) s.now }
+// Whether the bytes begin with one in each range of a row of table 3-7.
+fn begins(s: &[u8], row: &[(u8, u8)]) -> bool
+    ensures { result ≡ fits (map (λ r. r.0 to r.1) row.now) s.now }
 {
-    let b = peek(s, 2);
-    fits_two(s, low, high, least, most) & ((0x80 <= b) & (b <= 0xBF))
-}
-
-// Whether a row with four ranges fits, the last two those of every later byte.
-fn fits_four(s: &[u8], low: u8, high: u8, least: u8, most: u8) -> bool
-    ensures { result ≡ fits (low to high ∷ least to most ∷ 0x80 to 0xBF ∷ 0x80 to 0xBF ∷ []) s.now }
-{
-    let b = peek(s, 3);
-    fits_three(s, low, high, least, most) & ((0x80 <= b) & (b <= 0xBF))
+    row.len() <= s.len() && in_ranges(row, s)
 }
 
 // The length of the well-formed UTF-8 sequence at the front, or 0: the rows of table 3-7 in order.
 fn scan_sequence(s: &[u8]) -> usize
     ensures { result ≡ sequence s.now }
 {
-    if (1 <= s.len()) & (peek(s, 0) <= 0x7F) {
+    if begins(s, &[(0x00, 0x7F)]) {
         return 1;
     }
-    if fits_two(s, 0xC2, 0xDF, 0x80, 0xBF) {
+    if begins(s, &[(0xC2, 0xDF), LATER]) {
         return 2;
     }
-    if fits_three(s, 0xE0, 0xE0, 0xA0, 0xBF)
-        | fits_three(s, 0xE1, 0xEC, 0x80, 0xBF)
-        | fits_three(s, 0xED, 0xED, 0x80, 0x9F)
-        | fits_three(s, 0xEE, 0xEF, 0x80, 0xBF)
+    if begins(s, &[(0xE0, 0xE0), (0xA0, 0xBF), LATER])
+        | begins(s, &[(0xE1, 0xEC), LATER, LATER])
+        | begins(s, &[(0xED, 0xED), (0x80, 0x9F), LATER])
+        | begins(s, &[(0xEE, 0xEF), LATER, LATER])
     {
         return 3;
     }
-    if fits_four(s, 0xF0, 0xF0, 0x90, 0xBF)
-        | fits_four(s, 0xF1, 0xF3, 0x80, 0xBF)
-        | fits_four(s, 0xF4, 0xF4, 0x80, 0x8F)
+    if begins(s, &[(0xF0, 0xF0), (0x90, 0xBF), LATER, LATER])
+        | begins(s, &[(0xF1, 0xF3), LATER, LATER, LATER])
+        | begins(s, &[(0xF4, 0xF4), (0x80, 0x8F), LATER, LATER])
     {
         return 4;
     }

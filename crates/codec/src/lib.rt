@@ -10,6 +10,8 @@ ghost use Rattle.aadl.specs.Tokens as T;
 ghost use Rattle.aadl.specs.Tokens.{kind_in, length_in};
 ghost use Rattle.aadl.specs.Encoding.{event_word, class_in, last_in, cut_to_word, first_words};
 
+// Numbers that fit are cast by `as`: `usize` has no `From<u32>`, and `try_from` has an `Err` that cannot come.
+
 // BOTH
 
 // The kind in a word: a token's, or that of a Start or Token event.

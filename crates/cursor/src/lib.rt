@@ -23,18 +23,6 @@ pub struct Window {
     pub third: u8,
 }
 
-// The byte n places after a position, or 0 past the end.
-fn ahead(s: &[u8], pos: usize, n: usize) -> u8
-    ensures { result ≡ bytes.peek s.now (pos + n) }
-{
-    if pos < s.len() {
-        if n < s.len() - pos {
-            return s[pos + n];
-        }
-    }
-    0
-}
-
 impl<'a> Cursor<'a> {
     // A cursor at a position, which may lie past the end.
     pub fn new(input: &'a [u8], pos: usize) -> Cursor<'a>
@@ -54,7 +42,7 @@ impl<'a> Cursor<'a> {
     pub fn peek(self, n: usize) -> u8
         ensures { result ≡ bytes.peek self.entry.input.now (self.entry.pos + n) }
     {
-        ahead(self.input, self.pos, n)
+        peek(self.input, self.pos.saturating_add(n))
     }
 }
 

@@ -17,9 +17,12 @@ use Rattle.aadl.specs.Symbols.{symbol_of, C_STYLE, Placed, placed, symbols, raw_
 use Rattle.aadl.specs.Answers.{token_words}
 use Rattle.aadl.proofs.TokenBounds.{token-cases, word-kind, mark-kind}
 use Rattle.aadl.proofs.TokenText.{TokenAt, token-at}
-use Rattle.parser.specs.declared.Parser.{Parser}
+use Rattle.parser.specs.Counters.{Counters}
 use Rattle.parser.specs.Input.{input, standing, rest, ahead, nth}
+use Rattle.parser.specs.declared.Tokens.{Tokens}
+use Rattle.parser.specs.Parsers.{source, cursor}
 use Rattle.section.specs.Standing.{Passed}
+use Rattle.section.specs.Reaching.{Reached}
 use Rattle.section.proofs.Places.{stood-symbols}
 use Rattle.section.proofs.Seeking.{behind-total}
 use Rattle.evaluator.specs.Terms.{ahead_at}
@@ -42,7 +45,7 @@ unfolding standing
 some-symbol text b [] h = h
 some-symbol text b (w ∷ ws) h = omega arith
 
-module _ (text : List ℕ) (k : ℕ) (p : Parser) (x : Passed text k p) where
+module _ (text : List ℕ) (k : ℕ) (p : Counters) (x : Passed text k p) where
   stands : standing text p.byte (drop p.at (token_words text)) ≡ drop k (symbols text)
   unfolding symbols
   stands =
@@ -80,6 +83,24 @@ here [] (suc k) x e n = absurd (n (sym e))
 here (y ∷ xs) zero x e n = ap (λ (z : ℕ). z ∷ xs) e
 here (y ∷ xs) (suc k) x e n = here xs k x e n
 
+-- TOKENS ---------------------------------------------------------------------------------------------------------------
+
+module _ (text : List ℕ) (k : ℕ) (t : Tokens) (x : Reached text k t) where
+  -- the symbol where they stand
+  pub reached-ahead : (c : ℕ) → c ≡ nth (source t) (cursor t) 0 → c ≡ ahead_at text k
+  reached-ahead c e = passed-ahead text k (cursor t) x.stands t.words.now x.words_are c (e ∙ ap (λ (bs : List ℕ). nth (input bs t.words.now) (cursor t) 0) x.text_is)
+
+  -- what remains
+  pub reached-rest : rest (source t) (cursor t) ≡ drop k (symbols text)
+  reached-rest = ap (λ (bs : List ℕ). rest (input bs t.words.now) (cursor t)) x.text_is ∙ passed-rest text k (cursor t) x.stands t.words.now x.words_are
+
+  -- a symbol is there, or none
+  pub reached-some : t.at < length t.words.now → drop k (symbols text) ≡ ahead_at text k ∷ drop (suc k) (symbols text)
+  reached-some h = some-there text k (cursor t) x.stands (subst (λ (ws : List ℕ). t.at < length ws) x.words_are h)
+
+  pub reached-none : length t.words.now ≤ t.at → drop k (symbols text) ≡ []
+  reached-none h = none_there text k (cursor t) x.stands (subst (λ (ws : List ℕ). length ws ≤ t.at) x.words_are h)
+
 -- LITERALS -------------------------------------------------------------------------------------------------------------
 
 -- Only a number is of the kind INTEGER_LIT.
@@ -108,11 +129,14 @@ word-there text i b e = by (token_words text) i e
     by (w ∷ ws) zero q = (omega arith, symbol-kind (kind_in w) (peek text b) q)
     by (w ∷ ws) (suc j) q = let r = by ws j q in (omega (arith, r.0), r.1)
 
-pub literal-begins : (text : List ℕ) (k : ℕ) (p : Parser) → length text < 65536 → Passed text k p → ahead_at text k ≡ # INTEGER_LIT → is_digit (peek text p.byte) ≡ true
-literal-begins text k p h x e =
+pub literal-begins : (text : List ℕ) (k : ℕ) (t : Tokens) → Reached text k t → ahead_at text k ≡ # INTEGER_LIT → is_digit (peek text t.byte) ≡ true
+literal-begins text k t y e =
+    let p = cursor t in
+    let h = y.short in
+    let x = y.stands in
     let ws = token_words text in
     let i = p.at in
     let w = word-there text i p.byte (ap ahead (stands text k p x) ∙ e) in
-    let t = subst (λ (l : List ℕ). TokenAt text l i) (append-nil ws) (token-at text [] i h (omega (arith, w.0, length-map (tokens text) token_word))) in
+    let there = subst (λ (l : List ℕ). TokenAt text l i) (append-nil ws) (token-at text [] i h (omega (arith, w.0, length-map (tokens text) token_word))) in
     let zero : total (take i ws) + 0 ≡ p.byte = omega (arith, behind-total text h k p x.behind) in
-    ap is_digit (sym (get_or-drop (total (take i ws)) text 0 0 ∙ ap (peek text) zero)) ∙ digit-first (from_token text ws i) (sym t.kind ∙ w.1)
+    ap is_digit (sym (get_or-drop (total (take i ws)) text 0 0 ∙ ap (peek text) zero)) ∙ digit-first (from_token text ws i) (sym there.kind ∙ w.1)

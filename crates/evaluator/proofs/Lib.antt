@@ -4,6 +4,6 @@ pub mod Sums
 pub mod FirstValues
 pub mod Ahead
 pub mod Steps
-pub mod Outcomes
 pub mod Passing
-pub mod Arriving
+pub mod Literals
+pub mod Summing

@@ -1,29 +1,29 @@
--- Signs before an operand, and what stands before an association's arrow, passed one by one: the pass gives from where the parser stands
--- what it gives from the start. Assumes nothing.
+-- Signs before an operand, a literal, and what stands before an association's arrow, passed one by one: the pass gives from where the tokens
+-- stand what it gives from the start. Assumes nothing.
 use Prim.Native.Nat.{ℕ, suc, ◌≤◌, ◌<◌}
 use native.Mathlib.Omega.{arith}
 use mathlib.Core.Path.{◌≡◌, refl, sym, ap, ◌∙◌}
 use mathlib.Core.Bool.{Bool, true, false, not, ◌||◌, beq, cond}
 use mathlib.Core.List.{List, [], ◌∷◌}
 use mathlib.Core.Option.{Option, none, some}
-use lib.ListN.{length, drop}
+use lib.ListN.{length, drop, length-drop}
 use lib.Dec.{eqb}
 use lib.IntN.{pos}
 use borrow.Author.Tests.{ne_eqb}
+use Rattle.std.specs.Prelude.{Result}
 use Rattle.predictive.specs.Grammar.{has}
 use Rattle.predictive.proofs.Tests.{never}
 use Rattle.aadl.specs.Kinds.{FAT_ARROW, PLUS_ARROW, PLUS, MINUS, INTEGER_LIT, CONSTANT_KW, #◌}
 use Rattle.aadl.specs.Symbols.{symbols}
-use Rattle.aadl.specs.Answers.{token_words}
 use Rattle.aadl.specs.Values.{kept, with_sign, number_at}
-use Rattle.parser.specs.declared.Parser.{Parser}
-use Rattle.parser.specs.Input.{input, rest, ahead}
-use Rattle.section.specs.Standing.{Passed}
-use Rattle.evaluator.specs.declared.Signed.{Signed}
-use Rattle.evaluator.specs.declared.Term.{Term}
+use Rattle.int64.specs.declared.Whole.{Whole}
+use Rattle.parser.specs.declared.Tokens.{Tokens}
+use Rattle.parser.specs.Input.{rest, ahead}
+use Rattle.parser.specs.Parsers.{source, cursor}
+use Rattle.section.specs.Reaching.{Reached}
 use Rattle.evaluator.specs.Pass.{Pending, expects, continued, took, pass, evaluated, past_constant, past_arrow}
-use Rattle.evaluator.specs.Terms.{Held, passing, ahead_at, no_constant, comes_to, SignsPassed, OperandRead, ArrowPassed}
-use Rattle.evaluator.proofs.Ahead.{passed-rest, some-there, none_there, here}
+use Rattle.evaluator.specs.Terms.{Held, passing, ahead_at, SignsPassed, Operand, ArrowPassed}
+use Rattle.evaluator.proofs.Ahead.{reached-rest, reached-some, reached-none, here}
 use Rattle.evaluator.proofs.Steps.{sign-step, literal-step, no_operand}
 
 -- one of two, as the code tests it
@@ -39,27 +39,40 @@ two-kinds a b x = go (eqb x a) (eqb x b)
 pub not_end : (ks : List ℕ) (x : ℕ) → has ks x ≡ true → has ks 257 ≡ false → x ≡ 257 → ⊥
 not_end ks x t f e = never (sym f ∙ ap (has ks) (sym e) ∙ t)
 
--- Fewer symbols remain behind one that stands.
-pub fewer : (text ws : List ℕ) → ws ≡ token_words text → (k x : ℕ) (p r : Parser) → ahead_at text k ≡ x → (x ≡ 257 → ⊥) → Passed text k p → Passed text (suc k) r →
-    length (rest (input text ws) r) < length (rest (input text ws) p)
-fewer text ws w k x p r e n a b =
-    omega (arith, ap length (passed-rest text k p a ws w), ap length (passed-rest text (suc k) r b ws w), ap length (here (symbols text) k x e n))
+-- how many symbols remain
+abbrev pub left : Tokens → ℕ
+left t = length (rest (source t) (cursor t))
+
+-- Fewer remain behind one that stands where the tokens do, or further on.
+pub fewer : (text : List ℕ) (i j x : ℕ) (t r : Tokens) → Reached text i t → i ≤ j → ahead_at text j ≡ x → (x ≡ 257 → ⊥) → Reached text (suc j) r → left r < left t
+fewer text i j x t r a l e n b =
+    let xs = symbols text in
+    omega (
+      arith,
+      l,
+      ap length (reached-rest text i t a),
+      ap length (reached-rest text (suc j) r b),
+      ap length (here xs j x e n),
+      length-drop i xs,
+      length-drop j xs,
+      length-drop (suc j) xs,
+    )
 
 -- SIGNS ----------------------------------------------------------------------------------------------------------------
 
--- From token k the parser q has come to a token `to`, which shows c, past signs that turn the next operand or not.
-pub record SignsSoFar (text : List ℕ) (k : ℕ) (q : Parser) (negative : Bool) (c : ℕ) : Type 0 where
+-- From token k the tokens t have come to a token `to`, which shows c, past signs that turn the next operand or not.
+pub record SignsSoFar (text : List ℕ) (k : ℕ) (t : Tokens) (negative : Bool) (c : ℕ) : Type 0 where
   pub to : ℕ
   pub from : k ≤ to
-  pub stands : Passed text to q
+  pub stands : Reached text to t
   pub gives : (s p : Pending) → passing text k (expects false s p) ≡ passing text to (expects negative s p)
   pub shows : c ≡ ahead_at text to
 
 module _ (text : List ℕ) (k : ℕ) where
-  pub no_sign_yet : (p : Parser) (c : ℕ) → Passed text k p → c ≡ ahead_at text k → SignsSoFar text k p false c
-  no_sign_yet p c x e = record { to = k; from = omega arith; stands = x; gives = λ s q. refl; shows = e }
+  pub no_sign_yet : (t : Tokens) (c : ℕ) → Reached text k t → c ≡ ahead_at text k → SignsSoFar text k t false c
+  no_sign_yet t c x e = record { to = k; from = omega arith; stands = x; gives = λ s q. refl; shows = e }
 
-  pub one-sign_more : (q r : Parser) (m : Bool) (c d : ℕ) (x : SignsSoFar text k q m c) → (eqb c (# PLUS) || eqb c (# MINUS)) ≡ true → Passed text (suc x.to) r →
+  pub one-sign_more : (q r : Tokens) (m : Bool) (c d : ℕ) (x : SignsSoFar text k q m c) → (eqb c (# PLUS) || eqb c (# MINUS)) ≡ true → Reached text (suc x.to) r →
       d ≡ ahead_at text (suc x.to) → SignsSoFar text k r (not (beq m (eqb c (# MINUS)))) d
   one-sign_more q r m c d x t p e =
       record {
@@ -70,51 +83,51 @@ module _ (text : List ℕ) (k : ℕ) where
         shows = e;
       }
 
-  pub no_sign_more : (q : Parser) (m : Bool) (c : ℕ) → SignsSoFar text k q m c → (eqb c (# PLUS) || eqb c (# MINUS)) ≡ false →
-      SignsPassed text k (record { p = q; negative = m })
+  pub no_sign_more : (q : Tokens) (m : Bool) (c : ℕ) → SignsSoFar text k q m c → (eqb c (# PLUS) || eqb c (# MINUS)) ≡ false → SignsPassed text k m q
   no_sign_more q m c x t =
       record { to = x.to; from = x.from; stands = x.stands; gives = x.gives; no_sign = ap (has (# PLUS ∷ # MINUS ∷ [])) (sym x.shows) ∙ two-kinds (# PLUS) (# MINUS) c ∙ t }
 
 -- OPERANDS -------------------------------------------------------------------------------------------------------------
 
-module _ (text : List ℕ) (k : ℕ) (g : Signed) (x : SignsPassed text k g) (r : Term) where
-  pub no_literal : (ahead_at text x.to ≡ # INTEGER_LIT → ⊥) → r.constant ≡ false → OperandRead text k r
-  no_literal n e = λ s q. no_constant e (x.gives s q ∙ no_operand text x.to g.negative s q (λ i. ne_eqb (ahead_at text x.to) (# INTEGER_LIT) n i || x.no_sign i))
+module _ (text : List ℕ) (k : ℕ) (m : Bool) (t : Tokens) (x : SignsPassed text k m t) where
+  pub no_literal : (ahead_at text x.to ≡ # INTEGER_LIT → ⊥) → (s q : Pending) → passing text k (expects false s q) ≡ none
+  no_literal n s q = x.gives s q ∙ no_operand text x.to m s q (λ i. ne_eqb (ahead_at text x.to) (# INTEGER_LIT) n i || x.no_sign i)
 
-  module _ (here : ahead_at text x.to ≡ # INTEGER_LIT) where
+  module _ (shown : ahead_at text x.to ≡ # INTEGER_LIT) where
     by_number : (o : Option ℕ) → number_at text x.to ≡ o → (s q : Pending) →
-        passing text k (expects false s q) ≡ continued (took x.to g.negative s q o) (λ u. passing text (suc x.to) u)
+        passing text k (expects false s q) ≡ continued (took x.to m s q o) (λ u. passing text (suc x.to) u)
     by_number o e s q =
-        x.gives s q ∙ literal-step text x.to g.negative s q here
-        ∙ ap (λ (v : Option ℕ). continued (took x.to g.negative s q v) (λ u. passing text (suc x.to) u)) e
+        x.gives s q ∙ literal-step text x.to m s q shown
+        ∙ ap (λ (v : Option ℕ). continued (took x.to m s q v) (λ u. passing text (suc x.to) u)) e
 
-    pub broken-literal : number_at text x.to ≡ none → r.constant ≡ false → OperandRead text k r
-    broken-literal n e = λ s q. no_constant e (by_number none n s q)
+    pub broken-literal : number_at text x.to ≡ none → (s q : Pending) → passing text k (expects false s q) ≡ none
+    broken-literal n s q = by_number none n s q
 
-    pub whole-literal : (n : ℕ) → number_at text x.to ≡ some n → r.constant ≡ true → Passed text (suc x.to) r.p →
-        Held text (with_sign g.negative (kept x.to (pos n))) r.outcome → OperandRead text k r
-    whole-literal n f e p h = λ s q. comes_to (suc x.to) (with_sign g.negative (kept x.to (pos n))) e (omega (arith, x.from)) p h (by_number (some n) f s q) refl
+    pub whole-literal : (n : ℕ) (r : Result Whole ℕ) (u : Tokens) → number_at text x.to ≡ some n → Reached text (suc x.to) u →
+        Held text (with_sign m (kept x.to (pos n))) r → Operand text k r u
+    whole-literal n r u f p h =
+        record { to = suc x.to; from = omega (arith, x.from); stands = p; outcome = with_sign m (kept x.to (pos n)); held = h; gives = by_number (some n) f }
 
 -- THE ARROW ------------------------------------------------------------------------------------------------------------
 
--- From token k the parser q has come to a token `to`, before the arrow.
-pub record BeforeArrow (text : List ℕ) (k : ℕ) (q : Parser) : Type 0 where
+-- From token k the tokens q have come to a token `to`, before the arrow.
+pub record BeforeArrow (text : List ℕ) (k : ℕ) (q : Tokens) : Type 0 where
   pub to : ℕ
-  pub stands : Passed text to q
+  pub stands : Reached text to q
   pub gives : past_arrow (number_at text) k (drop k (symbols text)) ≡ past_arrow (number_at text) to (drop to (symbols text))
 
-module _ (text : List ℕ) (k : ℕ) (q : Parser) (x : BeforeArrow text k q) where
+module _ (text : List ℕ) (k : ℕ) (q : Tokens) (x : BeforeArrow text k q) where
   abbrev shows : ℕ
   shows = ahead_at text x.to
 
   -- a symbol stands there: it is the arrow, or it is passed
-  module _ (h : q.at < length (token_words text)) (r : Parser) (p : Passed text (suc x.to) r) where
+  module _ (h : q.at < length q.words.now) (r : Tokens) (p : Reached text (suc x.to) r) where
     by-arrow : (t : Bool) → (eqb shows (# FAT_ARROW) || eqb shows (# PLUS_ARROW)) ≡ t →
         past_arrow (number_at text) k (drop k (symbols text))
         ≡ cond t (past_constant (number_at text) (suc x.to) (drop (suc x.to) (symbols text))) (past_arrow (number_at text) (suc x.to) (drop (suc x.to) (symbols text)))
     unfolding past_arrow
     by-arrow t e =
-        x.gives ∙ ap (past_arrow (number_at text) x.to) (some-there text x.to q x.stands h)
+        x.gives ∙ ap (past_arrow (number_at text) x.to) (reached-some text x.to q x.stands h)
         ∙ ap (λ (b : Bool). cond b (past_constant (number_at text) (suc x.to) (drop (suc x.to) (symbols text))) (past_arrow (number_at text) (suc x.to) (drop (suc x.to) (symbols text)))) e
 
     pub arrow-here : (eqb shows (# FAT_ARROW) || eqb shows (# PLUS_ARROW)) ≡ true → ArrowPassed text k r
@@ -124,20 +137,27 @@ module _ (text : List ℕ) (k : ℕ) (q : Parser) (x : BeforeArrow text k q) whe
     no_arrow_here e = record { to = suc x.to; stands = p; gives = by-arrow false e }
 
   -- none does
-  pub no_arrow : length (token_words text) ≤ q.at → ArrowPassed text k q
+  pub no_arrow : length q.words.now ≤ q.at → ArrowPassed text k q
   unfolding past_arrow
   no_arrow h =
-      let e = none_there text x.to q x.stands h in
+      let e = reached-none text x.to q x.stands h in
       record { to = x.to; stands = x.stands; gives = x.gives ∙ ap (past_arrow (number_at text) x.to) e ∙ ap (past_constant (number_at text) x.to) (sym e) }
 
--- Behind the arrow `constant` stands, or it does not.
-module _ (text : List ℕ) (k : ℕ) (q : Parser) (x : ArrowPassed text k q) where
-  pub constant-here : ahead_at text x.to ≡ # CONSTANT_KW → past_arrow (number_at text) k (drop k (symbols text)) ≡ evaluated (number_at text) (suc x.to) (drop (suc x.to) (symbols text))
-  constant-here e = x.gives ∙ ap (past_constant (number_at text) x.to) (here (symbols text) x.to (# CONSTANT_KW) e (λ f. omega (arith, f)))
+-- From token k the tokens have come to the value.
+pub record AtValue (text : List ℕ) (k : ℕ) (t : Tokens) : Type 0 where
+  pub to : ℕ
+  pub stands : Reached text to t
+  pub gives : past_arrow (number_at text) k (drop k (symbols text)) ≡ evaluated (number_at text) to (drop to (symbols text))
 
-  pub no_constant-here : (ahead_at text x.to ≡ # CONSTANT_KW → ⊥) → past_arrow (number_at text) k (drop k (symbols text)) ≡ evaluated (number_at text) x.to (drop x.to (symbols text))
+-- Behind the arrow `constant` stands, or it does not.
+module _ (text : List ℕ) (k : ℕ) (q : Tokens) (x : ArrowPassed text k q) where
+  pub constant-here : (r : Tokens) → ahead_at text x.to ≡ # CONSTANT_KW → Reached text (suc x.to) r → AtValue text k r
+  constant-here r e p =
+      record { to = suc x.to; stands = p; gives = x.gives ∙ ap (past_constant (number_at text) x.to) (here (symbols text) x.to (# CONSTANT_KW) e (λ f. omega (arith, f))) }
+
+  pub no_constant-here : (ahead_at text x.to ≡ # CONSTANT_KW → ⊥) → AtValue text k q
   unfolding pass
-  no_constant-here n = x.gives ∙ go (drop x.to (symbols text)) n
+  no_constant-here n = record { to = x.to; stands = x.stands; gives = x.gives ∙ go (drop x.to (symbols text)) n }
     where
       go : (ys : List ℕ) → (ahead ys ≡ # CONSTANT_KW → ⊥) → past_constant (number_at text) x.to ys ≡ evaluated (number_at text) x.to ys
       go [] m = refl

@@ -15,10 +15,12 @@ use Rattle.predictive.specs.Reader.{ones}
 use Rattle.predictive.proofs.Tests.{never, or_l, or_r, or_cases}
 use Rattle.aadl.specs.Kinds.{PLUS, MINUS, STAR, SLASH, DOT_DOT, INTEGER_LIT, IDENT, #◌}
 use Rattle.aadl.specs.Symbols.{symbols}
-use Rattle.aadl.specs.Values.{times, Outcome, number_at}
+use Rattle.aadl.specs.Values.{Outcome, number_at}
 use Rattle.parser.specs.Input.{ahead}
-use Rattle.evaluator.specs.Pass.{Mark, stop, mark_of, Pending, nothing, waiting, completed, State, expects, behind, continued, took, step, pass}
-use Rattle.evaluator.specs.Terms.{operator_of, passing, ahead_at}
+use Rattle.evaluator.specs.Pass.{Mark, stop, mark_of, Pending, nothing, completed, State, expects, behind, continued, took, step, pass}
+use Rattle.evaluator.specs.declared.Operator.{Operator as Sign}
+use Rattle.evaluator.specs.declared.Operator.TheVariants.{Times, Plus, Minus}
+use Rattle.evaluator.specs.Terms.{kind_of, sum_behind, product_behind, passing, ahead_at}
 use Rattle.evaluator.proofs.Ahead.{here}
 use Rattle.evaluator.proofs.Operands.{none-begins}
 use Rattle.evaluator.proofs.Sums.{settled, ended}
@@ -71,18 +73,11 @@ module _ (text : List ℕ) where
   no_operand k m s q e = none-begins (number_at text) k (drop k xs) m s q (at_ahead (# INTEGER_LIT ∷ # PLUS ∷ # MINUS ∷ []) refl (drop k xs) e)
 
   -- operators
-  pub star-step : (k : ℕ) (s : Pending) (o : Outcome) → ahead_at text k ≡ # STAR → passing text k (behind s o) ≡ passing text (suc k) (expects false s (waiting times k o))
-  star-step k s o e = one-step k (# STAR) (behind s o) e (λ g. omega (arith, g))
-
-  pub sum_step : (k x : ℕ) (o : Outcome) → ahead_at text k ≡ x → has (# PLUS ∷ # MINUS ∷ []) x ≡ true →
-      passing text k (behind nothing o) ≡ passing text (suc k) (expects false (waiting (operator_of x) k o) nothing)
-  sum_step k x o e t =
-      ⊎_elim
-      (λ (f : x ≡ # PLUS). subst (λ (y : ℕ). passing text k (behind nothing o) ≡ passing text (suc k) (expects false (waiting (operator_of y) k o) nothing)) (sym f)
-      (one-step k (# PLUS) (behind nothing o) (e ∙ f) (λ g. omega (arith, g))))
-      (λ (f : x ≡ # MINUS). subst (λ (y : ℕ). passing text k (behind nothing o) ≡ passing text (suc k) (expects false (waiting (operator_of y) k o) nothing)) (sym f)
-      (one-step k (# MINUS) (behind nothing o) (e ∙ f) (λ g. omega (arith, g))))
-      (one_of (# PLUS) (# MINUS) x t)
+  pub operator-step : (k : ℕ) (op : Sign) (s : Pending) (o : Outcome) → ahead_at text k ≡ kind_of op →
+      passing text k (behind s o) ≡ passing text (suc k) (expects false (sum_behind op k s o) (product_behind op k o))
+  operator-step k Times s o e = one-step k (# STAR) (behind s o) e (λ g. omega (arith, g))
+  operator-step k Plus s o e = one-step k (# PLUS) (behind s o) e (λ g. omega (arith, g))
+  operator-step k Minus s o e = one-step k (# MINUS) (behind s o) e (λ g. omega (arith, g))
 
   -- where no `*` follows the sum is complete
   pub no_star : (k : ℕ) (s : Pending) (o : Outcome) → has (# STAR ∷ []) (ahead_at text k) ≡ false → passing text k (behind s o) ≡ passing text k (behind nothing (completed s o))

@@ -2,15 +2,12 @@
 
 #![tactic(auto)]
 
-ghost use Rattle.std.specs.Prelude.{◌≡◌, false, [], ◌∷◌, ℕ, suc};
+ghost use Rattle.std.specs.Prelude.{◌≡◌, false, [], ◌∷◌, ℕ, suc, Some};
 ghost use Rattle.predictive.specs.Grammar.{Choice, opt, opens};
 ghost use Rattle.predictive.specs.Reader.{ones};
 ghost use Rattle.aadl.specs.Kinds as K;
 ghost use Rattle.aadl.specs.Section as G;
-ghost use Rattle.parser.specs.declared.Lhs.TheVariants.{Node};
-ghost use Rattle.parser.specs.Input.{input};
-ghost use Rattle.parser.specs.State.{with_left};
-ghost use Rattle.parser.specs.Reads.{stands, Read, ReadOperand, ReadsWithin, ReadsNodeWithin, ReadsOperandWithin};
+ghost use Rattle.parser.specs.Parsers.{stand, ReadsWithin, ReadsNodeWithin, ReadsOperandWithin};
 ghost use Rattle.expressions.specs.Openers.{beginnings, signed_value, opener_value};
 ghost use Rattle.expressions.specs.Behind.{Extends, ToRange, ToExpression};
 
@@ -19,10 +16,7 @@ use operands::{
     boolean_value, c_style_value, computed_value, integer_value, named_value, real_value,
     reference_value, string_value,
 };
-use parser::{
-    C_STYLE, Completed, Lhs, Operand, Parser, TOO_DEEP, at, bump, bump_any, complete, current,
-    error, expect, kind_at, precede, start, stop, with_left,
-};
+use parser::{C_STYLE, CompletedMarker, Parser, TOO_DEEP};
 use syntax_kind::{
     BINARY_EXPR, BOOLEAN_VALUE, CLASSIFIER_KW, COMMA, COMPUTE_KW, DELTA_KW, DELTA_VALUE, DOT_DOT,
     FALSE_KW, FAT_ARROW, IDENT, INTEGER_LIT, L_BRACKET, L_PAREN, LIST_VALUE, MINUS, NOT_KW, PLUS,
@@ -32,310 +26,243 @@ use syntax_kind::{
 
 // OPERANDS
 
-// The node of an operand.
-fn operand(c: Completed) -> Operand
-    ensures { result ≡ record { p = c.p; lhs = Node c.m } }
-{
-    let p = c.p;
-    let m = c.m;
-    Operand {
-        p,
-        lhs: Lhs::Node(m),
-    }
-}
-
-// The same where an opener ends, before which so many were left.
-fn closed(c: Completed, left: usize) -> Operand
-    ensures { result ≡ record { p = with_left left c.p; lhs = Node c.m } }
-{
-    let p = with_left(c.p, left);
-    let m = c.m;
-    Operand {
-        p,
-        lhs: Lhs::Node(m),
-    }
-}
-
 // An opener stands: `not`, `(`, `[` or a sign.
-fn at_opener(text: &[u8], toks: &[u32], p: Parser) -> bool
-    ensures { result ≡ stands (input text.now toks.now) (ones (G.numbers (K.NOT_KW ∷ K.L_PAREN ∷ K.L_BRACKET ∷ K.PLUS ∷ K.MINUS ∷ []))) p }
+fn at_opener(p: &Parser<'_>) -> bool
+    ensures { result ≡ stand (ones (G.numbers (K.NOT_KW ∷ K.L_PAREN ∷ K.L_BRACKET ∷ K.PLUS ∷ K.MINUS ∷ []))) p.now }
 {
-    let kind = kind_at(toks, p);
+    let kind = p.kind();
     (kind == NOT_KW) | (kind == L_PAREN) | (kind == L_BRACKET) | (kind == PLUS) | (kind == MINUS)
 }
 
 // An operand, or message 5 where none stands.
 #[cycle(expression)]
-fn property_expression_primary(text: &[u8], toks: &[u32], events: &mut [u32], p: Parser) -> Operand
-    ensures { ReadsOperandWithin text toks events p.left G.operand p result }
+fn property_expression_primary(p: &mut Parser<'_>) -> Option<CompletedMarker>
+    ensures { ReadsOperandWithin p.old.left G.operand p.old result p.new }
 {
-    if at_opener(text, toks, p) {
-        return opener(text, toks, events, p);
+    if at_opener(p) {
+        return opener(p);
     }
-    let kind = kind_at(toks, p);
+    let kind = p.kind();
     if (kind == TRUE_KW) | (kind == FALSE_KW) {
-        return operand(boolean_value(text, toks, events, p));
+        return Some(boolean_value(p));
     }
     match kind {
-        INTEGER_LIT => operand(integer_value(text, toks, events, p)),
-        REAL_LIT => operand(real_value(text, toks, events, p)),
-        STRING_LIT => operand(string_value(text, toks, events, p)),
-        CLASSIFIER_KW => operand(classifier_value(text, toks, events, p)),
-        REFERENCE_KW => operand(reference_value(text, toks, events, p)),
-        COMPUTE_KW => operand(computed_value(text, toks, events, p)),
-        IDENT => operand(named_value(text, toks, events, p)),
-        _ => no_operand(text, toks, events, p),
+        INTEGER_LIT => Some(integer_value(p)),
+        REAL_LIT => Some(real_value(p)),
+        STRING_LIT => Some(string_value(p)),
+        CLASSIFIER_KW => Some(classifier_value(p)),
+        REFERENCE_KW => Some(reference_value(p)),
+        COMPUTE_KW => Some(computed_value(p)),
+        IDENT => Some(named_value(p)),
+        _ => no_operand(p),
     }
 }
 
 // Where none of the kinds stands that begin an operand: a C-style literal, or message 5.
-fn no_operand(text: &[u8], toks: &[u32], events: &mut [u32], p: Parser) -> Operand
-    requires { stands (input text.now toks.now) (ones beginnings) p ≡ false }
-    ensures { (d : ℕ) → ReadOperand (input text.now toks.now) d G.operand p events.old result events.new }
+fn no_operand(p: &mut Parser<'_>) -> Option<CompletedMarker>
+    requires { stand (ones beginnings) p.old ≡ false }
+    ensures { (d : ℕ) → ReadsOperandWithin d G.operand p.old result p.new }
 {
-    if current(text, toks, p) == C_STYLE {
-        return operand(c_style_value(text, toks, events, p));
+    if p.current() == C_STYLE {
+        return Some(c_style_value(p));
     }
-    let p = error(events, p, 5);
-    Operand {
-        p,
-        lhs: Lhs::Nothing,
-    }
+    p.error(5);
+    None
 }
 
 // What begins with an opener: refused where none is left.
 #[cycle(expression)]
-fn opener(text: &[u8], toks: &[u32], events: &mut [u32], p: Parser) -> Operand
-    ensures { ReadsOperandWithin text toks events p.left (opens opener_value) p result }
+fn opener(p: &mut Parser<'_>) -> Option<CompletedMarker>
+    ensures { ReadsOperandWithin p.old.left (opens opener_value) p.old result p.new }
 {
     let left = p.left;
     if left == 0 {
-        let p = stop(p, TOO_DEEP);
-        return Operand {
-            p,
-            lhs: Lhs::Nothing,
-        };
+        p.stop(TOO_DEEP);
+        return None;
     }
-    let q = with_left(p, left - 1);
-    let kind = kind_at(toks, q);
-    match kind {
-        NOT_KW => closed(not_value(text, toks, events, q), left),
-        L_PAREN => closed(list_value(text, toks, events, q), left),
-        L_BRACKET => closed(record_value(text, toks, events, q), left),
-        _ => closed(signed_value(text, toks, events, q), left),
+    p.left = left - 1;
+    let value = opened(p);
+    p.left = left;
+    Some(value)
+}
+
+// What stands behind an opener that is not refused.
+#[cycle(expression)]
+fn opened(p: &mut Parser<'_>) -> CompletedMarker
+    ensures { ReadsOperandWithin (suc p.old.left) opener_value p.old (Some result) p.new }
+{
+    match p.kind() {
+        NOT_KW => not_value(p),
+        L_PAREN => list_value(p),
+        L_BRACKET => record_value(p),
+        _ => signed_value(p),
     }
 }
 
 #[cycle(expression)]
-fn not_value(text: &[u8], toks: &[u32], events: &mut [u32], p: Parser) -> Completed
-    ensures { ReadsNodeWithin text toks events (suc p.left) G.not_value p result }
+fn not_value(p: &mut Parser<'_>) -> CompletedMarker
+    ensures { ReadsNodeWithin (suc p.old.left) G.not_value p.old result p.new }
 {
-    let s = start(events, p);
-    let p = bump(text, toks, events, s.p, NOT_KW);
-    let o = property_expression_primary(text, toks, events, p);
-    let p = expr(text, toks, events, o);
-    complete(events, p, s.m, BOOLEAN_VALUE)
+    let m = p.start();
+    p.bump(NOT_KW);
+    let lhs = property_expression_primary(p);
+    expr(p, lhs);
+    m.complete(p, BOOLEAN_VALUE)
 }
 
 #[cycle(expression)]
-fn list_value(text: &[u8], toks: &[u32], events: &mut [u32], p: Parser) -> Completed
-    ensures { ReadsNodeWithin text toks events (suc p.left) G.list_value p result }
+fn list_value(p: &mut Parser<'_>) -> CompletedMarker
+    ensures { ReadsNodeWithin (suc p.old.left) G.list_value p.old result p.new }
 {
-    let s = start(events, p);
-    let p = bump(text, toks, events, s.p, L_PAREN);
-    if at(text, toks, p, R_PAREN) {
-        let p = bump(text, toks, events, p, R_PAREN);
-        return complete(events, p, s.m, LIST_VALUE);
+    let m = p.start();
+    p.bump(L_PAREN);
+    if p.at(R_PAREN) {
+        p.bump(R_PAREN);
+        return m.complete(p, LIST_VALUE);
     }
-    let mut q = property_expression(text, toks, events, p);
-    while at(text, toks, q, COMMA) {
-        q = bump(text, toks, events, q, COMMA);
-        q = property_expression(text, toks, events, q);
+    property_expression(p);
+    while p.at(COMMA) {
+        p.bump(COMMA);
+        property_expression(p);
     }
-    let p = expect(text, toks, events, q, R_PAREN);
-    complete(events, p, s.m, LIST_VALUE)
+    p.expect(R_PAREN);
+    m.complete(p, LIST_VALUE)
 }
 
 #[cycle(expression)]
-fn record_value(text: &[u8], toks: &[u32], events: &mut [u32], p: Parser) -> Completed
-    ensures { ReadsNodeWithin text toks events (suc p.left) G.record_value p result }
+fn record_value(p: &mut Parser<'_>) -> CompletedMarker
+    ensures { ReadsNodeWithin (suc p.old.left) G.record_value p.old result p.new }
 {
-    let s = start(events, p);
-    let mut q = bump(text, toks, events, s.p, L_BRACKET);
-    while at(text, toks, q, IDENT) {
-        let f = start(events, q);
-        q = bump(text, toks, events, f.p, IDENT);
-        q = expect(text, toks, events, q, FAT_ARROW);
-        q = property_expression(text, toks, events, q);
-        q = expect(text, toks, events, q, SEMICOLON);
-        let c = complete(events, q, f.m, RECORD_FIELD);
-        q = c.p;
+    let m = p.start();
+    p.bump(L_BRACKET);
+    while p.at(IDENT) {
+        let field = p.start();
+        p.bump(IDENT);
+        p.expect(FAT_ARROW);
+        property_expression(p);
+        p.expect(SEMICOLON);
+        field.complete(p, RECORD_FIELD);
     }
-    let p = expect(text, toks, events, q, R_BRACKET);
-    complete(events, p, s.m, RECORD_VALUE)
+    p.expect(R_BRACKET);
+    m.complete(p, RECORD_VALUE)
 }
 
 // A sign and the operand that it is for, not the sum around them: `-1 + 2` is a sum.
 #[cycle(expression)]
-fn signed_value(text: &[u8], toks: &[u32], events: &mut [u32], p: Parser) -> Completed
-    ensures { ReadsNodeWithin text toks events (suc p.left) signed_value p result }
+fn signed_value(p: &mut Parser<'_>) -> CompletedMarker
+    ensures { ReadsNodeWithin (suc p.old.left) signed_value p.old result p.new }
 {
-    let s = start(events, p);
-    let p = bump_any(text, toks, events, s.p);
-    let o = property_expression_primary(text, toks, events, p);
-    complete(events, o.p, s.m, PROPERTY_EXPRESSION)
+    let m = p.start();
+    p.bump_any();
+    property_expression_primary(p);
+    m.complete(p, PROPERTY_EXPRESSION)
 }
 
 // EXPRESSIONS
 
-// `*` or `/` stands.
-fn at_factor(text: &[u8], toks: &[u32], p: Parser) -> bool
-    ensures { result ≡ stands (input text.now toks.now) (ones (G.numbers (K.STAR ∷ K.SLASH ∷ []))) p }
-{
-    let kind = current(text, toks, p);
-    (kind == STAR) | (kind == SLASH)
-}
-
-// `+` or `-` stands.
-fn at_sign(text: &[u8], toks: &[u32], p: Parser) -> bool
-    ensures { result ≡ stands (input text.now toks.now) (ones (G.numbers (K.PLUS ∷ K.MINUS ∷ []))) p }
-{
-    let kind = current(text, toks, p);
-    (kind == PLUS) | (kind == MINUS)
-}
-
 // An operator stands: `*`, `/`, `+`, `-` or `..`.
-fn at_operator(text: &[u8], toks: &[u32], p: Parser) -> bool
-    ensures { result ≡ stands (input text.now toks.now) (ones (G.numbers (K.STAR ∷ K.SLASH ∷ K.PLUS ∷ K.MINUS ∷ K.DOT_DOT ∷ []))) p }
+fn at_operator(p: &Parser<'_>) -> bool
+    ensures { result ≡ stand (ones (G.numbers (K.STAR ∷ K.SLASH ∷ K.PLUS ∷ K.MINUS ∷ K.DOT_DOT ∷ []))) p.now }
 {
-    let kind = kind_at(toks, p);
+    let kind = p.kind();
     (kind == STAR) | (kind == SLASH) | (kind == PLUS) | (kind == MINUS) | (kind == DOT_DOT)
 }
 
-// Most operands have no operator behind them: what is behind one has functions of its own, and the readers stay small.
+// Most operands have no operator behind them: what is behind one has functions of its own, and the readers stay small. `product` and `sum` differ in
+// their operators and in what they read: one function for both would call that through a closure, and a cycle has no proof through one.
 
 // From an operand to a product: the factors behind it, if any.
 #[cycle(expression)]
-fn product(text: &[u8], toks: &[u32], events: &mut [u32], o: Operand) -> Operand
-    ensures { Extends (input text.now toks.now) G.operand G.product o events.old result events.new }
+fn product(p: &mut Parser<'_>, lhs: Option<CompletedMarker>) -> Option<CompletedMarker>
+    ensures { Extends G.operand G.product lhs p.old result p.new }
 {
-    let lhs = o.lhs;
-    let Lhs::Node(m) = lhs else {
-        return o;
-    };
-    let mut q = o.p;
-    let mut lhs = m;
-    while at_factor(text, toks, q) {
-        let s = precede(events, q, lhs);
-        q = bump_any(text, toks, events, s.p);
-        let o = property_expression_primary(text, toks, events, q);
-        let c = complete(events, o.p, s.m, BINARY_EXPR);
-        q = c.p;
-        lhs = c.m;
+    let mut lhs = lhs?;
+    while p.at_either(STAR, SLASH) {
+        let m = lhs.precede(p);
+        p.bump_any();
+        property_expression_primary(p);
+        lhs = m.complete(p, BINARY_EXPR);
     }
-    Operand {
-        p: q,
-        lhs: Lhs::Node(lhs),
-    }
+    Some(lhs)
 }
 
 #[cycle(expression)]
-fn multiplicative_expression(text: &[u8], toks: &[u32], events: &mut [u32], p: Parser) -> Operand
-    ensures { ReadsOperandWithin text toks events p.left G.product p result }
+fn multiplicative_expression(p: &mut Parser<'_>) -> Option<CompletedMarker>
+    ensures { ReadsOperandWithin p.old.left G.product p.old result p.new }
 {
-    let o = property_expression_primary(text, toks, events, p);
-    product(text, toks, events, o)
+    let lhs = property_expression_primary(p);
+    product(p, lhs)
 }
 
 // From a product to a sum: the terms behind it, if any.
 #[cycle(expression)]
-fn sum(text: &[u8], toks: &[u32], events: &mut [u32], o: Operand) -> Operand
-    ensures { Extends (input text.now toks.now) G.product G.sum o events.old result events.new }
+fn sum(p: &mut Parser<'_>, lhs: Option<CompletedMarker>) -> Option<CompletedMarker>
+    ensures { Extends G.product G.sum lhs p.old result p.new }
 {
-    let lhs = o.lhs;
-    let Lhs::Node(m) = lhs else {
-        return o;
-    };
-    let mut q = o.p;
-    let mut lhs = m;
-    while at_sign(text, toks, q) {
-        let s = precede(events, q, lhs);
-        q = bump_any(text, toks, events, s.p);
-        let o = multiplicative_expression(text, toks, events, q);
-        let c = complete(events, o.p, s.m, BINARY_EXPR);
-        q = c.p;
-        lhs = c.m;
+    let mut lhs = lhs?;
+    while p.at_either(PLUS, MINUS) {
+        let m = lhs.precede(p);
+        p.bump_any();
+        multiplicative_expression(p);
+        lhs = m.complete(p, BINARY_EXPR);
     }
-    Operand {
-        p: q,
-        lhs: Lhs::Node(lhs),
-    }
+    Some(lhs)
 }
 
 #[cycle(expression)]
-fn additive_expression(text: &[u8], toks: &[u32], events: &mut [u32], p: Parser) -> Operand
-    ensures { ReadsOperandWithin text toks events p.left G.sum p result }
+fn additive_expression(p: &mut Parser<'_>) -> Option<CompletedMarker>
+    ensures { ReadsOperandWithin p.old.left G.sum p.old result p.new }
 {
-    let o = multiplicative_expression(text, toks, events, p);
-    sum(text, toks, events, o)
+    let lhs = multiplicative_expression(p);
+    sum(p, lhs)
 }
 
 // `delta` and a sum, if `delta` stands.
 #[cycle(expression)]
-fn delta(text: &[u8], toks: &[u32], events: &mut [u32], p: Parser) -> Parser
-    ensures { (c : Choice) → Read (input text.now toks.now) p.left (opt c G.delta_value) p events.old result events.new }
+fn delta(p: &mut Parser<'_>)
+    ensures { (c : Choice) → ReadsWithin p.old.left (opt c G.delta_value) p.old p.new }
 {
-    if at(text, toks, p, DELTA_KW) {
-        let s = start(events, p);
-        let p = bump(text, toks, events, s.p, DELTA_KW);
-        let o = additive_expression(text, toks, events, p);
-        let c = complete(events, o.p, s.m, DELTA_VALUE);
-        return c.p;
+    if p.at(DELTA_KW) {
+        let m = p.start();
+        p.bump(DELTA_KW);
+        additive_expression(p);
+        m.complete(p, DELTA_VALUE);
     }
-    p
 }
 
 // From a sum to a range: `..` and a sum behind it, with what may follow.
 #[cycle(expression)]
-fn range(text: &[u8], toks: &[u32], events: &mut [u32], o: Operand) -> Parser
-    ensures { ToRange (input text.now toks.now) o events.old result events.new }
+fn range(p: &mut Parser<'_>, lhs: Option<CompletedMarker>)
+    ensures { ToRange lhs p.old p.new }
 {
-    let p = o.p;
-    let lhs = o.lhs;
-    let Lhs::Node(m) = lhs else {
-        return p;
-    };
-    let s = precede(events, p, m);
-    let p = bump(text, toks, events, s.p, DOT_DOT);
-    let o = additive_expression(text, toks, events, p);
-    let p = delta(text, toks, events, o.p);
-    let c = complete(events, p, s.m, RANGE_VALUE);
-    c.p
+    if let Some(lhs) = lhs {
+        let m = lhs.precede(p);
+        p.bump(DOT_DOT);
+        additive_expression(p);
+        delta(p);
+        m.complete(p, RANGE_VALUE);
+    }
 }
 
 // From an operand to an expression: what stands behind it, if anything.
 #[cycle(expression)]
-fn expr(text: &[u8], toks: &[u32], events: &mut [u32], o: Operand) -> Parser
-    ensures { ToExpression (input text.now toks.now) o events.old result events.new }
+fn expr(p: &mut Parser<'_>, lhs: Option<CompletedMarker>)
+    ensures { ToExpression lhs p.old p.new }
 {
-    let o = product(text, toks, events, o);
-    let o = sum(text, toks, events, o);
-    if at(text, toks, o.p, DOT_DOT) {
-        return range(text, toks, events, o);
+    let lhs = product(p, lhs);
+    let lhs = sum(p, lhs);
+    if p.at(DOT_DOT) {
+        range(p, lhs);
     }
-    o.p
 }
 
 // A sum, or a range of two sums; an operand alone, in most cases.
 #[cycle(expression)]
-pub fn property_expression(text: &[u8], toks: &[u32], events: &mut [u32], p: Parser) -> Parser
-    ensures { ReadsWithin text toks events p.left G.expression p result }
+pub fn property_expression(p: &mut Parser<'_>)
+    ensures { ReadsWithin p.old.left G.expression p.old p.new }
 {
-    let left = p.left;
-    // a parser of its own: passed on as it came, p would be copied whole on the way in
-    let o = property_expression_primary(text, toks, events, with_left(p, left));
-    if at_operator(text, toks, o.p) {
-        return expr(text, toks, events, o);
+    let lhs = property_expression_primary(p);
+    if at_operator(p) {
+        expr(p, lhs);
     }
-    o.p
 }

@@ -6,12 +6,10 @@ ghost use Rattle.std.specs.Prelude.{suc};
 ghost use Rattle.predictive.specs.Grammar.{any};
 ghost use Rattle.predictive.specs.Notation.{maybe};
 ghost use Rattle.aadl.specs.Section as G;
-ghost use Rattle.parser.specs.Reads.{ReadsPart, ReadsWithin, ReadsNodeWithin};
+ghost use Rattle.parser.specs.Parsers.{ReadsPart, ReadsWithin, ReadsNodeWithin};
 
 use categories::{at_ident_or_kw, category, direction, name_or_error};
-use parser::{
-    Completed, Parser, TOO_DEEP, at, bump, bump_any, complete, expect, start, stop, with_left,
-};
+use parser::{CompletedMarker, Parser, TOO_DEEP};
 use syntax_kind::{
     CLASSIFIER_KW, CLASSIFIER_REF, CLASSIFIER_VALUE, COLON_COLON, COMMA, DOT, FAT_ARROW, IN_KW,
     L_PAREN, MODES_KW, PROTOTYPE_BINDING, PROTOTYPE_BINDING_LIST, R_PAREN,
@@ -21,155 +19,145 @@ use syntax_kind::{
 
 // A classifier reference, if a name stands: `Pkg::Type`, `Pkg::Type.Impl`, with bindings after it.
 #[cycle(classifier)]
-pub fn classifier_ref(text: &[u8], toks: &[u32], events: &mut [u32], p: Parser) -> Parser
-    ensures { ReadsWithin text toks events p.left (maybe G.classifier) p result }
+pub fn classifier_ref(p: &mut Parser<'_>)
+    ensures { ReadsWithin p.old.left (maybe G.classifier) p.old p.new }
 {
-    if !at_ident_or_kw(text, toks, p) {
-        return p;
+    if !at_ident_or_kw(p) {
+        return;
     }
-    let s = start(events, p);
-    let mut q = bump_any(text, toks, events, s.p);
-    while at(text, toks, q, COLON_COLON) {
-        q = bump(text, toks, events, q, COLON_COLON);
-        q = name_or_error(text, toks, events, q, 6);
+    let m = p.start();
+    p.bump_any();
+    while p.at(COLON_COLON) {
+        p.bump(COLON_COLON);
+        name_or_error(p, 6);
     }
-    let p = implementation(text, toks, events, q);
-    let p = prototype_bindings(text, toks, events, p);
-    let c = complete(events, p, s.m, CLASSIFIER_REF);
-    c.p
+    implementation(p);
+    prototype_bindings(p);
+    m.complete(p, CLASSIFIER_REF);
 }
 
 // `.` and a name, if `.` stands.
-fn implementation(text: &[u8], toks: &[u32], events: &mut [u32], p: Parser) -> Parser
-    ensures { ReadsPart text toks events (maybe G.implementation) p result }
+fn implementation(p: &mut Parser<'_>)
+    ensures { ReadsPart (maybe G.implementation) p.old p.new }
 {
-    if at(text, toks, p, DOT) {
-        let p = bump(text, toks, events, p, DOT);
-        return name_or_error(text, toks, events, p, 7);
+    if p.at(DOT) {
+        p.bump(DOT);
+        name_or_error(p, 7);
     }
-    p
 }
 
 // Bindings, if `(` stands: an opener.
 #[cycle(classifier)]
-fn prototype_bindings(text: &[u8], toks: &[u32], events: &mut [u32], p: Parser) -> Parser
-    ensures { ReadsWithin text toks events p.left (maybe G.bindings) p result }
+fn prototype_bindings(p: &mut Parser<'_>)
+    ensures { ReadsWithin p.old.left (maybe G.bindings) p.old p.new }
 {
-    if at(text, toks, p, L_PAREN) {
+    if p.at(L_PAREN) {
         let left = p.left;
         if left == 0 {
-            return stop(p, TOO_DEEP);
+            p.stop(TOO_DEEP);
+            return;
         }
-        let p = prototype_binding_list(text, toks, events, with_left(p, left - 1));
-        return with_left(p, left);
+        p.left = left - 1;
+        prototype_binding_list(p);
+        p.left = left;
     }
-    p
 }
 
 #[cycle(classifier)]
-fn prototype_binding_list(text: &[u8], toks: &[u32], events: &mut [u32], p: Parser) -> Parser
-    ensures { ReadsWithin text toks events (suc p.left) G.binding_list p result }
+fn prototype_binding_list(p: &mut Parser<'_>)
+    ensures { ReadsWithin (suc p.old.left) G.binding_list p.old p.new }
 {
-    let s = start(events, p);
-    let p = bump(text, toks, events, s.p, L_PAREN);
-    let p = binding_items(text, toks, events, p);
-    let p = expect(text, toks, events, p, R_PAREN);
-    let c = complete(events, p, s.m, PROTOTYPE_BINDING_LIST);
-    c.p
+    let m = p.start();
+    p.bump(L_PAREN);
+    binding_items(p);
+    p.expect(R_PAREN);
+    m.complete(p, PROTOTYPE_BINDING_LIST);
 }
 
 // Bindings with commas between them, if a name stands.
 #[cycle(classifier)]
-fn binding_items(text: &[u8], toks: &[u32], events: &mut [u32], p: Parser) -> Parser
-    ensures { ReadsWithin text toks events (suc p.left) (maybe (G.commas (G.binding G.name) (G.binding any))) p result }
+fn binding_items(p: &mut Parser<'_>)
+    ensures { ReadsWithin (suc p.old.left) (maybe (G.commas (G.binding G.name) (G.binding any))) p.old p.new }
 {
-    if at_ident_or_kw(text, toks, p) {
-        let mut q = prototype_binding(text, toks, events, p);
-        while at(text, toks, q, COMMA) {
-            q = bump(text, toks, events, q, COMMA);
-            q = prototype_binding(text, toks, events, q);
+    if at_ident_or_kw(p) {
+        prototype_binding(p);
+        while p.at(COMMA) {
+            p.bump(COMMA);
+            prototype_binding(p);
         }
-        return q;
     }
-    p
 }
 
 // One binding, whose head is whatever token stands.
 #[cycle(classifier)]
-fn prototype_binding(text: &[u8], toks: &[u32], events: &mut [u32], p: Parser) -> Parser
-    ensures { ReadsWithin text toks events (suc p.left) (G.binding any) p result }
+fn prototype_binding(p: &mut Parser<'_>)
+    ensures { ReadsWithin (suc p.old.left) (G.binding any) p.old p.new }
 {
-    let s = start(events, p);
-    let p = bump_any(text, toks, events, s.p);
-    let p = expect(text, toks, events, p, FAT_ARROW);
-    let p = direction(text, toks, events, p);
-    let p = category(text, toks, events, p);
-    let p = classifier_ref(text, toks, events, p);
-    let c = complete(events, p, s.m, PROTOTYPE_BINDING);
-    c.p
+    let m = p.start();
+    p.bump_any();
+    p.expect(FAT_ARROW);
+    direction(p);
+    category(p);
+    classifier_ref(p);
+    m.complete(p, PROTOTYPE_BINDING);
 }
 
 // `classifier` and a classifier in parentheses.
-pub fn classifier_value(text: &[u8], toks: &[u32], events: &mut [u32], p: Parser) -> Completed
-    ensures { ReadsNodeWithin text toks events p.left G.classifier_value p result }
+pub fn classifier_value(p: &mut Parser<'_>) -> CompletedMarker
+    ensures { ReadsNodeWithin p.old.left G.classifier_value p.old result p.new }
 {
-    let s = start(events, p);
-    let p = bump(text, toks, events, s.p, CLASSIFIER_KW);
-    let p = expect(text, toks, events, p, L_PAREN);
-    let p = classifier_ref(text, toks, events, p);
-    let p = expect(text, toks, events, p, R_PAREN);
-    complete(events, p, s.m, CLASSIFIER_VALUE)
+    let m = p.start();
+    p.bump(CLASSIFIER_KW);
+    p.expect(L_PAREN);
+    classifier_ref(p);
+    p.expect(R_PAREN);
+    m.complete(p, CLASSIFIER_VALUE)
 }
 
 // MODES
 
 // `in modes` and the modes in parentheses, which the caller has seen to stand.
-pub fn in_modes(text: &[u8], toks: &[u32], events: &mut [u32], p: Parser) -> Parser
-    ensures { ReadsPart text toks events G.in_modes p result }
+pub fn in_modes(p: &mut Parser<'_>)
+    ensures { ReadsPart G.in_modes p.old p.new }
 {
-    let p = bump(text, toks, events, p, IN_KW);
-    let p = bump(text, toks, events, p, MODES_KW);
-    let p = expect(text, toks, events, p, L_PAREN);
-    let p = mode_items(text, toks, events, p);
-    expect(text, toks, events, p, R_PAREN)
+    p.bump(IN_KW);
+    p.bump(MODES_KW);
+    p.expect(L_PAREN);
+    mode_items(p);
+    p.expect(R_PAREN);
 }
 
 // Modes with commas between them, if a name stands.
-fn mode_items(text: &[u8], toks: &[u32], events: &mut [u32], p: Parser) -> Parser
-    ensures { ReadsPart text toks events (maybe (G.commas G.mode (maybe G.mode))) p result }
+fn mode_items(p: &mut Parser<'_>)
+    ensures { ReadsPart (maybe (G.commas G.mode (maybe G.mode))) p.old p.new }
 {
-    if at_ident_or_kw(text, toks, p) {
-        let mut q = mode_or_mapping(text, toks, events, p);
-        while at(text, toks, q, COMMA) {
-            q = bump(text, toks, events, q, COMMA);
-            q = mode_or_mapping(text, toks, events, q);
+    if at_ident_or_kw(p) {
+        mode_or_mapping(p);
+        while p.at(COMMA) {
+            p.bump(COMMA);
+            mode_or_mapping(p);
         }
-        return q;
     }
-    p
 }
 
 // A mode, or a mode and what it is mapped to, if a name stands.
-fn mode_or_mapping(text: &[u8], toks: &[u32], events: &mut [u32], p: Parser) -> Parser
-    ensures { ReadsPart text toks events (maybe G.mode) p result }
+fn mode_or_mapping(p: &mut Parser<'_>)
+    ensures { ReadsPart (maybe G.mode) p.old p.new }
 {
-    if at_ident_or_kw(text, toks, p) {
-        let p = bump_any(text, toks, events, p);
-        return mapping(text, toks, events, p);
+    if at_ident_or_kw(p) {
+        p.bump_any();
+        mapping(p);
     }
-    p
 }
 
 // `=>` and the name of a mode, which may be missing, if `=>` stands.
-fn mapping(text: &[u8], toks: &[u32], events: &mut [u32], p: Parser) -> Parser
-    ensures { ReadsPart text toks events (maybe G.mapping) p result }
+fn mapping(p: &mut Parser<'_>)
+    ensures { ReadsPart (maybe G.mapping) p.old p.new }
 {
-    if at(text, toks, p, FAT_ARROW) {
-        let p = bump(text, toks, events, p, FAT_ARROW);
-        if at_ident_or_kw(text, toks, p) {
-            return bump_any(text, toks, events, p);
+    if p.at(FAT_ARROW) {
+        p.bump(FAT_ARROW);
+        if at_ident_or_kw(p) {
+            p.bump_any();
         }
-        return p;
     }
-    p
 }

@@ -1,4 +1,2 @@
 pub mod Signs
 pub mod Ranges
-pub mod Products
-pub mod Casts

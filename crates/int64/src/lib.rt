@@ -1,11 +1,13 @@
-// Whole numbers by sign and size: sums and products in the signed 64-bit range. Each operation is tested before it is made, so that none
-// wraps; a result that leaves the range is told.
+// Whole numbers by sign and size: sums and products in the signed 64-bit range. Each operation is tested as it is made, so that none
+// wraps; a result that leaves the range is none.
 
 #![tactic(auto)]
 
-ghost use Rattle.std.specs.Prelude.{◌*◌, ◌≤◌, ◌≡◌, true, false, leb, neg_ℤ, ◌+ℤ◌, ◌*ℤ◌};
+ghost use Rattle.std.specs.Prelude.{◌≤◌, ◌≡◌, true, neg_ℤ, ◌+ℤ◌, ◌*ℤ◌};
 ghost use Rattle.aadl.specs.Values.{in_range};
 ghost use Rattle.int64.specs.Integers.{most, by_sign, integer, ResultOf};
+
+use std::ops::Neg;
 
 // A whole number by its sign and its size. Zero may have either sign.
 #[derive(Clone, Copy)]
@@ -14,55 +16,22 @@ pub struct Whole {
     pub size: u64,
 }
 
-// A result, if it is in the signed 64-bit range; else what it holds is free but for its size.
-#[derive(Clone, Copy)]
-pub struct Checked {
-    pub fits: bool,
-    pub whole: Whole,
-}
-
 // The greatest size: that of the least number. No positive number of the range has it.
 pub const MOST: u64 = 9223372036854775808;
 
-// The greatest number whose square is at most MOST.
-const ROOT: u64 = 3037000499;
-
-// A number whose size may be MOST: it fits unless it is 2 to the 63rd.
-fn fitted(negative: bool, size: u64) -> Checked
-    requires { size ≤ most }
+// The number, if it is in the signed 64-bit range.
+fn fitted(negative: bool, size: u64) -> Option<Whole>
     ensures { ResultOf (by_sign negative size) result }
 {
-    Checked {
-        fits: negative | (size < MOST),
-        whole: Whole {
-            negative: negative,
-            size: size,
-        },
-    }
+    let fits = (size < MOST) | (negative & (size == MOST));
+    fits.then_some(Whole { negative, size })
 }
 
-// What is answered for a size above MOST.
-fn beyond() -> Checked
-    ensures { (result.fits ≡ false) × (result.whole.size ≡ 0) }
-{
-    Checked {
-        fits: false,
-        whole: Whole {
-            negative: false,
-            size: 0,
-        },
-    }
-}
-
-pub fn add(x: Whole, y: Whole) -> Checked
-    requires { (x.size ≤ most) × (y.size ≤ most) }
+pub fn add(x: Whole, y: Whole) -> Option<Whole>
     ensures { ResultOf (integer x +ℤ integer y) result }
 {
     if x.negative == y.negative {
-        if MOST - x.size < y.size {
-            return beyond();
-        }
-        return fitted(x.negative, x.size + y.size);
+        return fitted(x.negative, x.size.checked_add(y.size)?);
     }
     if x.size < y.size {
         return fitted(y.negative, y.size - x.size);
@@ -70,35 +39,22 @@ pub fn add(x: Whole, y: Whole) -> Checked
     fitted(x.negative, x.size - y.size)
 }
 
-// Whether a product is at most MOST. Small factors need no division.
-fn product_fits(a: u64, b: u64) -> bool
-    ensures { result ≡ leb (a * b) most }
-{
-    if (a <= ROOT) & (b <= ROOT) {
-        return true;
-    }
-    if a == 0 {
-        return true;
-    }
-    b <= MOST / a
-}
-
-pub fn multiply(x: Whole, y: Whole) -> Checked
-    requires { (x.size ≤ most) × (y.size ≤ most) }
+pub fn multiply(x: Whole, y: Whole) -> Option<Whole>
     ensures { ResultOf (integer x *ℤ integer y) result }
 {
-    if product_fits(x.size, y.size) {
-        return fitted(x.negative != y.negative, x.size * y.size);
-    }
-    beyond()
+    fitted(x.negative != y.negative, x.size.checked_mul(y.size)?)
 }
 
-pub fn negate(x: Whole) -> Whole
-    ensures { (integer result ≡ neg_ℤ (integer x)) × (result.size ≡ x.size) }
-{
-    Whole {
-        negative: !x.negative,
-        size: x.size,
+impl Neg for Whole {
+    type Output = Whole;
+
+    ghost neg_gives = { λ x r. (integer r ≡ neg_ℤ (integer x)) × (r.size ≡ x.size) };
+
+    fn neg(self) -> Whole {
+        Whole {
+            negative: !self.negative,
+            size: self.size,
+        }
     }
 }
 
@@ -107,29 +63,20 @@ pub fn to_i64(x: Whole) -> i64
     requires { in_range (integer x) ≡ true }
     ensures { result ≡ integer x }
 {
-    if x.size == MOST {
-        return -9223372036854775808;
-    }
-    let v = x.size as i64;
     if x.negative {
-        return -v;
+        return 0i64.saturating_sub_unsigned(x.size);
     }
-    v
+    0i64.saturating_add_unsigned(x.size)
 }
 
-// The same number by its sign and size. A negative one has 1 added before its sign goes, and after: the least one's size is above the range.
-pub fn from_i64(v: i64) -> Whole
-    ensures { (integer result ≡ v) × (result.size ≤ most) }
-{
-    if v < 0 {
-        let less = -(v + 1);
-        return Whole {
-            negative: true,
-            size: less as u64 + 1,
-        };
-    }
-    Whole {
-        negative: false,
-        size: v as u64,
+// The same number by its sign and size.
+impl From<i64> for Whole {
+    ghost from_gives = { λ v w. (integer w ≡ v) × (w.size ≤ most) };
+
+    fn from(v: i64) -> Whole {
+        Whole {
+            negative: v < 0,
+            size: v.unsigned_abs(),
+        }
     }
 }

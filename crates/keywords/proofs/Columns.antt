@@ -1,13 +1,13 @@
 -- What stands in a column of the tables at a row, and where the letters of a row's word stand in the letters of all. A column lists a
 -- function's values; the letters are by induction over the words. Assumes nothing.
-use Prim.Native.Nat.{ℕ, zero, suc, ◌+◌, ◌<◌}
-use native.Mathlib.Nat.{eq-or-lt_of_le, add-zero, zero-add, add-suc, suc-add, add_assoc, le_of_suc-le-suc, not-suc-le-zero}
+use Prim.Native.Nat.{ℕ, zero, suc, ◌+◌, ◌≤◌, ◌<◌}
+use native.Mathlib.Nat.{eq-or-lt_of_le, add-zero, zero-add, add-suc, suc-add, le_of_suc-le-suc, not-suc-le-zero}
 use native.Mathlib.Omega.{arith}
-use mathlib.Core.Path.{◌≡◌, sym, ap, ◌∙◌, subst}
+use mathlib.Core.Path.{◌≡◌, refl, sym, ap, ◌∙◌, subst}
 use mathlib.Core.Logic.{⊎_elim}
 use mathlib.Core.List.{List, [], ◌∷◌, map}
-use lib.ListN.{length, get_or, take, length-append, get_or-append}
-use lib.Seq.{get_or-append-add}
+use lib.ListN.{length, get_or, take, drop, length-append}
+use Rattle.std.proofs.Math.Seq.{take-append_seam, drop-append-add}
 use Rattle.aadl.specs.Words.{Entry, words, table, no_word, row}
 use Rattle.aadl.specs.Section.{from}
 use Rattle.keywords.specs.Tables.{laid, letters_before, word_letters, word_starts, word_lengths, word_kinds, candidate, word_slots}
@@ -37,33 +37,31 @@ slot_at h l = value-at candidate 256 h l
 
 -- LETTERS --------------------------------------------------------------------------------------------------------------
 
-module _ (j : ℕ) where
-  laid-at : (es : List Entry) (i : ℕ) → i < length es → j < length (get_or es i no_word).word →
-      get_or (laid es) (length (laid (take i es)) + j) 0 ≡ get_or (get_or es i no_word).word j 0
-  laid-at [] i h l = absurd (not-suc-le-zero h)
-  laid-at (e ∷ es) zero h l = rw zero-add (get_or-append e.word (laid es) 0 j l)
-  laid-at (e ∷ es) (suc i) h l =
-      rw (length-append, add_assoc, get_or-append-add e.word (laid es)) (laid-at es i (le_of_suc-le-suc h) l)
+laid_part : (es : List Entry) (i : ℕ) → i < length es →
+    take (length (get_or es i no_word).word) (drop (length (laid (take i es))) (laid es)) ≡ (get_or es i no_word).word
+laid_part [] i h = absurd (not-suc-le-zero h)
+laid_part (e ∷ es) zero h = take-append_seam e.word (laid es)
+laid_part (e ∷ es) (suc i) h =
+    rw (length-append e.word (laid (take i es)), drop-append-add e.word (laid es)) (laid_part es i (le_of_suc-le-suc h))
 
-  laid_in : (es : List Entry) (i : ℕ) → i < length es → j < length (get_or es i no_word).word →
-      length (laid (take i es)) + j < length (laid es)
-  laid_in [] i h l = absurd (not-suc-le-zero h)
-  laid_in (e ∷ es) zero h l = omega (arith, length-append e.word (laid es))
-  laid_in (e ∷ es) (suc i) h l =
-      omega (arith, length-append e.word (laid es), length-append e.word (laid (take i es)), laid_in es i (le_of_suc-le-suc h) l)
+laid_in : (es : List Entry) (i : ℕ) → i < length es → length (laid (take i es)) + length (get_or es i no_word).word ≤ length (laid es)
+laid_in [] i h = absurd (not-suc-le-zero h)
+laid_in (e ∷ es) zero h = omega (arith, length-append e.word (laid es))
+laid_in (e ∷ es) (suc i) h =
+    omega (arith, length-append e.word (laid es), length-append e.word (laid (take i es)), laid_in es i (le_of_suc-le-suc h))
 
-module _ (i j : ℕ) (h : i < 82) (l : j < length (row i).word) where
-  -- The row for no word has no letters.
-  has_word : i < 81
+-- The row for no word has no letters.
+module _ (i : ℕ) (h : i < 82) where
+  pub word-in : letters_before i + length (row i).word ≤ 510
   unfolding words table
-  has_word =
-      ⊎_elim (λ e. absurd (not-suc-le-zero (subst (λ (k : ℕ). j < length (row k).word) e l))) (λ q. q)
+  word-in =
+      ⊎_elim (λ e. subst (λ (k : ℕ). letters_before k + length (row k).word ≤ 510) (sym e) (omega arith)) (λ q. laid_in table i q)
       (eq-or-lt_of_le (le_of_suc-le-suc h))
 
-  pub letter_at : get_or word_letters (letters_before i + j) 0 ≡ get_or (row i).word j 0
+  pub word_at : take (length (row i).word) (drop (letters_before i) word_letters) ≡ (row i).word
   unfolding words table
-  letter_at = laid-at j table i has_word l
-
-  pub letter-in : letters_before i + j < 510
-  unfolding words table
-  letter-in = laid_in j table i has_word l
+  word_at =
+      ⊎_elim
+      (λ e. subst (λ (k : ℕ). take (length (row k).word) (drop (letters_before k) word_letters) ≡ (row k).word) (sym e) refl)
+      (λ q. laid_part table i q)
+      (eq-or-lt_of_le (le_of_suc-le-suc h))

@@ -1,19 +1,21 @@
--- Comparing a word with that of a row, letter by letter. Words of different lengths are not the same; of two that are equally long, what is
--- left behind the letters that are the same decides (`Standing`), and each step says what becomes of it. Assumes nothing.
-use Prim.Native.Nat.{ℕ, suc, ◌+◌, ◌≤◌, ◌<◌}
-use native.Mathlib.Numerals.{add-one}
+-- Comparing a word with that of a row: words of different lengths are not the same, and two that are equally long are where each letter is the
+-- row's, or its capital. By induction over both. Assumes nothing.
+use Prim.Native.Nat.{ℕ, suc, ◌<◌}
 use native.Mathlib.Omega.{arith}
-use mathlib.Core.Path.{◌≡◌, refl, sym, ap, ◌∙◌}
-use mathlib.Core.Bool.{true, false}
+use mathlib.Core.Path.{◌≡◌, refl, ap, ◌∙◌}
+use mathlib.Core.Bool.{Bool, true, false, ◌&&◌}
 use mathlib.Core.List.{List, [], ◌∷◌}
-use lib.ListN.{length, get_or, drop, drop_of_length-le}
-use lib.Seq.{drop-cons}
-use lib.Dec.{eqb}
-use borrow.Author.Tests.{eq-eqb, ne_eqb}
-use Rattle.predictive.proofs.Tests.{and_false_r}
-use Rattle.aadl.specs.Words.{row, lower, same}
-use Rattle.keywords.specs.Tables.{letters_before, word_letters}
-use Rattle.keywords.proofs.Columns.{letter_at, letter-in}
+use lib.ListN.{length}
+use lib.Dec.{eqb, ltb}
+use borrow.Author.Tests.{ltb-true, ltb-false}
+use Rattle.predictive.proofs.Tests.{and_false_r, and_l, and_r}
+use Rattle.std.specs.List.{list_all, zip}
+use Rattle.aadl.specs.Words.{lower, same, Entry, table, words, row, no_word}
+use Rattle.aadl.specs.Bytes.{within}
+use Rattle.aadl.proofs.Bools.{bounds}
+use Rattle.aadl.proofs.Lists.{every-at}
+use Rattle.aadl.proofs.KeywordKinds.{lower-case, table-length, table-lower_case}
+use Rattle.keywords.specs.Tables.{is_case}
 
 pub same_length : (v w : List ℕ) → (length v ≡ length w → ⊥) → same v w ≡ false
 same_length [] [] h = absurd (h refl)
@@ -21,49 +23,24 @@ same_length [] (b ∷ bs) h = refl
 same_length (v ∷ vs) [] h = refl
 same_length (v ∷ vs) (b ∷ bs) h = and_false_r (eqb v (lower b)) (same vs bs) (same_length vs bs (λ e. h (ap suc e)))
 
--- A word is compared with that of row i, both of n letters: the row's begin at a place of the letters of all words, and j are the same.
-pub record Standing (word : List ℕ) (i : ℕ) (letters : List ℕ) (n from j : ℕ) : Type 0 where
-  pub a-row : i < 82
-  pub lent : letters ≡ word_letters
-  pub begins : from ≡ letters_before i
-  pub row-long : length (row i).word ≡ n
-  pub word-long : length word ≡ n
-  pub inside : j ≤ n
-  pub decides : same (row i).word word ≡ same (drop j (row i).word) (drop j word)
+-- A letter of the table or its capital is what std's or aadl's change of case makes that letter.
+letter_case : (v b : ℕ) → within 97 122 v ≡ true → is_case v b ≡ eqb v (lower b)
+letter_case v b h = grind (arith, bounds 97 122 v h)
 
-module _ {word : List ℕ} {i : ℕ} {letters : List ℕ} {n from j : ℕ} (s : Standing word i letters n from j) where
-  pub all_same : n ≤ j → same (row i).word word ≡ true
-  all_same h =
-      let past_row : length (row i).word ≤ j = omega (arith, h, s.row-long) in
-      let past_word : length word ≤ j = omega (arith, h, s.word-long) in
-      s.decides ∙ rw (drop_of_length-le (row i).word past_row, drop_of_length-le word past_word) refl
+pub same_letters : (v w : List ℕ) → lower-case v ≡ true → length v ≡ length w → list_all (λ p. is_case p.0 p.1) (zip v w) ≡ same v w
+same_letters [] [] t h = refl
+same_letters [] (b ∷ bs) t h = absurd (omega (arith, h))
+same_letters (v ∷ vs) [] t h = absurd (omega (arith, h))
+same_letters (v ∷ vs) (b ∷ bs) t h = λ i. letter_case v b (and_l (within 97 122 v) (lower-case vs) t) i && same_letters vs bs (and_r (within 97 122 v) (lower-case vs) t) (omega (arith, h)) i
 
-  module _ (h : j < n) where
-    in_row : j < length (row i).word
-    in_row = omega (arith, h, s.row-long)
+last-lower_case : lower-case (row 81).word ≡ true
+unfolding table words
+last-lower_case = refl
 
-    in_word : j < length word
-    in_word = omega (arith, h, s.word-long)
-
-    pub in_letters : from + j < 510
-    in_letters = omega (arith, s.begins, letter-in i j s.a-row in_row)
-
-    -- the letter that is read is the row's
-    letter : get_or letters (from + j) 0 ≡ get_or (row i).word j 0
-    letter = (λ k. get_or (s.lent k) (s.begins k + j) 0) ∙ letter_at i j s.a-row in_row
-
-    pub one_more : get_or letters (from + j) 0 ≡ lower (get_or word j 0) → Standing word i letters n from (j + 1)
-    one_more e =
-        record {
-          a-row = s.a-row;
-          lent = s.lent;
-          begins = s.begins;
-          row-long = s.row-long;
-          word-long = s.word-long;
-          inside = omega (arith, h);
-          decides = s.decides ∙ rw (drop-cons (row i).word j 0 in_row, drop-cons word j 0 in_word, eq-eqb _ _ (sym letter ∙ e), add-one) refl;
-        }
-
-    pub one-differs : (get_or letters (from + j) 0 ≡ lower (get_or word j 0) → ⊥) → same (row i).word word ≡ false
-    one-differs d =
-        s.decides ∙ rw (drop-cons (row i).word j 0 in_row, drop-cons word j 0 in_word, ne_eqb _ _ (λ e. d (letter ∙ e))) refl
+-- The words of all rows are lower case; the last row has no letters.
+pub row-lower_case : (i : ℕ) → i < 82 → lower-case (row i).word ≡ true
+row-lower_case i h = go (ltb i 81) refl
+  where
+    go : (t : Bool) → ltb i 81 ≡ t → lower-case (row i).word ≡ true
+    go true e = every-at (λ (r : Entry). lower-case r.word) table i no_word (omega (arith, table-length, ltb-true i 81 e)) table-lower_case
+    go false e = ap (λ (k : ℕ). lower-case (row k).word) (omega (arith, h, ltb-false i 81 e)) ∙ last-lower_case

@@ -1,6 +1,6 @@
 -- The tables that a word's kind is looked up in, computed from aadl's table of words; the code's arrays equal these by computation. A column
 -- has 82 rows, from 0 on: the eighty-one words, and last a row without letters, which is no word's. Assumes nothing.
-use Rattle.std.specs.Prelude.{ℕ, suc, ◌+◌, ◌-◌, ◌*◌, ◌/◌, ◌%◌, ◌≡◌, cond, List, [], ◌∷◌, ◌++◌, map, length, take, eqb}
+use Rattle.std.specs.Prelude.{Bool, ℕ, suc, ◌+◌, ◌-◌, ◌*◌, ◌/◌, ◌%◌, cond, ◌||◌, List, [], ◌∷◌, ◌++◌, map, length, take, eqb}
 use Rattle.aadl.specs.Words.{Entry, table, row}
 use Rattle.aadl.specs.Bytes.{peek}
 use Rattle.aadl.specs.Section.{from}
@@ -34,6 +34,10 @@ word_kinds = map (λ (i : ℕ). (row i).kind) (from 0 82)
 abbrev pub without_case : List ℕ → ℕ → ℕ
 without_case w j = peek w j % 32
 
+-- a letter of the table, or its capital
+abbrev pub is_case : (v b : ℕ) → Bool
+is_case v b = eqb v b || eqb ((v + 224) % 256) b
+
 -- The factors were searched for until no two words of the table had one hash.
 abbrev pub hash_of : List ℕ → ℕ
 hash_of w =
@@ -49,11 +53,3 @@ candidate h = row_from 0 table h
 
 abbrev pub word_slots : List ℕ
 word_slots = map candidate (from 0 256)
-
--- The lent arrays are the tables.
-pub record Lent (letters starts lengths kinds slots : List ℕ) : Type 0 where
-  pub letters_lent : letters ≡ word_letters
-  pub starts_lent : starts ≡ word_starts
-  pub lengths_lent : lengths ≡ word_lengths
-  pub kinds_lent : kinds ≡ word_kinds
-  pub slots_lent : slots ≡ word_slots

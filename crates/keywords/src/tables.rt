@@ -1,8 +1,8 @@
 // The table of words by columns, a row for each word in the order of the kinds, and one row more, without letters, that is no word's. Each
-// array is the list that specs/Tables.antt computes from the words of aadl: proofs/word_tables.
+// array is the list that specs/Tables.antt computes from the words of aadl: proofs/Columns.antt.
 
 // The letters of the eighty-one words, laid end to end.
-pub const LETTERS: [u8; 510] =
+pub static LETTERS: [u8; 510] =
     *b"packagepublicprivatewithendnonerenamessystemprocessthreadgroupprocessorvirtualbusmemorydevicesubprogramdata\
     abstractimplementationextendsprototypesfeaturesflowsconnectionsmodespropertiessubcomponentsannexcallsinternal\
     inoutporteventaccessprovidesrequiresfeatureparameterinverseofflowsourcesinkpathinitialmodetransitionconstant\
@@ -10,7 +10,7 @@ pub const LETTERS: [u8; 510] =
     aadlintegeraadlrealaadlstringpropertytruefalsenotandorrefinedselfinterfacefile";
 
 // Where the letters of each word start.
-pub const STARTS: [u16; 82] = [
+pub static STARTS: [u16; 82] = [
     0, 7, 13, 20, 24, 27, 31, 38, 44, 51, 57, 62, 71, 78, 81, 87, 93, 103, 107, 115, 129, 136, 146,
     154, 159, 170, 175, 185, 198, 203, 208, 216, 218, 221, 225, 230, 236, 244, 252, 259, 268, 275,
     277, 281, 287, 291, 295, 302, 306, 316, 324, 331, 333, 340, 345, 347, 350, 357, 367, 376, 382,
@@ -19,14 +19,14 @@ pub const STARTS: [u16; 82] = [
 ];
 
 // How many letters each word has.
-pub const LENGTHS: [u8; 82] = [
+pub static LENGTHS: [u8; 82] = [
     7, 6, 7, 4, 3, 4, 7, 6, 7, 6, 5, 9, 7, 3, 6, 6, 10, 4, 8, 14, 7, 10, 8, 5, 11, 5, 10, 13, 5, 5,
     8, 2, 3, 4, 5, 6, 8, 8, 7, 9, 7, 2, 4, 6, 4, 4, 7, 4, 10, 8, 7, 2, 7, 5, 2, 3, 7, 10, 9, 6, 7,
     4, 3, 5, 5, 11, 4, 11, 11, 8, 10, 8, 4, 5, 3, 3, 2, 7, 4, 9, 4, 0,
 ];
 
 // The kind of each word.
-pub const KINDS: [u8; 82] = [
+pub static KINDS: [u8; 82] = [
     34, // package
     35, // public
     36, // private
@@ -114,7 +114,7 @@ pub const KINDS: [u8; 82] = [
 // For each hash (`hash` in lib.rt) the row whose word has it, or 81, the row without letters, where no word has it. A hash is the sum of a
 // word's length and of its first, last and middle letters without their case, each times a factor, modulo 256; the factors were searched
 // for until no two of the eighty-one words had one hash. So a word is the one in its slot or none, and one comparison decides.
-pub const SLOTS: [u8; 256] = [
+pub static SLOTS: [u8; 256] = [
     81, 81, 81, 81, 81, 81, 81, 81, 81, 81, 81, 81, 27, 30, 81, 81, 81, 81, 72, 21, 81, 28, 25, 81,
     81, 54, 7, 81, 81, 41, 37, 78, 81, 81, 81, 35, 81, 81, 60, 68, 81, 81, 81, 81, 67, 81, 81, 81,
     81, 81, 81, 81, 81, 74, 22, 46, 81, 81, 81, 81, 81, 63, 81, 81, 81, 81, 81, 48, 81, 81, 81, 24,

@@ -1,4 +1,3 @@
-pub mod FirstWords
-pub mod FrontLaws
 pub mod FillLaws
 pub mod SequenceLaws
+pub mod CappedTotal

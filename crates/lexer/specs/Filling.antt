@@ -1,5 +1,6 @@
 -- How far the tokens of a text go into lent words. Assumes nothing.
-use Rattle.std.specs.Prelude.{ℕ, ◌-◌, min, List, [], ◌∷◌, length, get_or, take, ltb}
+use Rattle.std.specs.Prelude.{ℕ, ◌-◌, cond, List, [], ◌∷◌, length, get_or, take, eqb, ltb, Option, Some, None, Result, Ok, Err}
+use Rattle.aadl.specs.declared.Token.{Token}
 use Rattle.aadl.specs.Tokens.{token, tokens, lengths}
 use Rattle.lexer.specs.declared.Filled.{Filled}
 
@@ -9,14 +10,12 @@ write [] old = old
 write (w ∷ ws) [] = []
 write (w ∷ ws) (o ∷ old) = w ∷ write ws old
 
--- Whether a token is left without a word, where the first such token or the text's end is, how many words are written, and the
--- last token that has one, or one of no bytes where none has.
-unfoldable pub filled_of : (text : List ℕ) → (lent : ℕ) → Filled
+-- The last of some tokens.
+abbrev pub last_of : List Token → Option Token
+last_of ts = cond (eqb (length ts) 0) None (Some (get_or ts (length ts - 1) (token 0 0)))
+
+-- How many tokens there are, and the last one; or, where a token is left without a word, its place.
+unfoldable pub filled_of : (text : List ℕ) → (lent : ℕ) → Result Filled ℕ
 filled_of text m =
-    let n = min m (length (tokens text)) in
-    record {
-      full = ltb m (length (tokens text));
-      at = lengths (take m (tokens text));
-      count = n;
-      last = get_or (take m (tokens text)) (n - 1) (token 0 0);
-    }
+    let ts = tokens text in
+    cond (ltb m (length ts)) (Err (lengths (take m ts))) (Ok (record { count = length ts; last = last_of ts }))

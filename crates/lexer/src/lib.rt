@@ -2,32 +2,28 @@
 
 #![tactic(auto)]
 
-ghost use Rattle.std.specs.Prelude.{◌≡◌, ◌+◌, ◌≤◌, min, length, take, replicate};
+ghost use Rattle.std.specs.Prelude.{◌≡◌, ◌+◌, ◌-◌, ◌≤◌, ◌<◌, min, [], length, take, drop, fold, replicate, unwrap_or};
 ghost use Rattle.aadl.specs.Limits.{base, Allowed};
 ghost use Rattle.aadl.specs.Utf8.{ill_formed};
-ghost use Rattle.aadl.specs.Tokens.{total, from_token, token_text};
-ghost use Rattle.aadl.specs.NumberParts.{number_parts, bit, part_numbers, PartsHold};
+ghost use Rattle.aadl.specs.Tokens.{length_in, total, from_token, token_text};
+ghost use Rattle.aadl.specs.NumberParts.{no_number, number_parts, part_numbers, PartsHold};
 ghost use Rattle.aadl.specs.Answers.{refused, token_words};
 ghost use Rattle.aadl.specs.Promises.{MakesTokensCall};
 ghost use Rattle.lexer.specs.Filling.{write, filled_of};
 
-use aadl::{Answer, Limits, Number, Span, Token};
-use classes::{DIGITS, class_table, is_ascii, lead_table, peek, run_end, sequence_at, skip_ascii};
+use aadl::{Answer, Limits, Number, Refusal, Token};
+use classes::{DIGITS, is_ascii, peek, run_end, sequence_at, skip_ascii};
 use codec::{kind_in, length_in, token_word};
-use keywords::word_tables;
-use scan::{number_from, scan_token, word_bound};
+use scan::{Scanner, number_from};
 
-// How far tokens went into words: whether one is left without a word, where it starts or the text ends, how many words are
-// written, and the last token that has one. Only the last token of a text can be a string that is not closed.
+// The tokens of a text in words: how many, and the last one, if there is any. Only the last token of a text can be a string that is not closed.
 #[derive(Clone, Copy)]
 pub struct Filled {
-    pub full: bool,
-    pub at: usize,
     pub count: usize,
-    pub last: Token,
+    pub last: Option<Token>,
 }
 
-// Where the first ill-formed sequence starts, or the length.
+// Where the first ill-formed sequence starts, or the length. The loop goes by sequences, of 1 to 4 bytes, for which no iterator stands.
 fn valid_up_to(s: &[u8]) -> usize
     ensures { result ≡ ill_formed s.now }
 {
@@ -45,120 +41,98 @@ fn valid_up_to(s: &[u8]) -> usize
     at
 }
 
-// Stands for the last token where there is none.
-const NO_TOKEN: Token = Token {
-    kind: 0,
-    len: 0,
-    closed: true,
-};
-
-// The answer of `fill`.
-fn how_far(full: bool, at: usize, count: usize, last: Token) -> Filled
-    ensures { result ≡ record { full = full; at = at; count = count; last = last } }
-{
-    Filled {
-        full,
-        at,
-        count,
-        last,
-    }
-}
-
-// Fills the words with the tokens of a text, as far as they go.
-fn fill(s: &[u8], tokens: &mut [u32]) -> Filled
+// Fills the words with the tokens of a text, as far as they go; where a token is left without a word, its place. No `for` over the words: the text's
+// end ends it, so that a `for` has the same tests and is no plainer.
+fn fill(s: &[u8], tokens: &mut [u32]) -> Result<Filled, usize>
     requires { length s.now ≤ base.bytes }
     ensures { (result ≡ filled_of s.now (length tokens.old)) × (tokens.new ≡ write (token_words s.now) tokens.old) }
 {
-    let leads = lead_table();
-    let classes = class_table();
-    let t = word_tables();
-    let letters = t.letters;
-    let starts = t.starts;
-    let lengths = t.lengths;
-    let kinds = t.kinds;
-    let slots = t.slots;
-    let bound = word_bound(s, &classes);
+    let scanner = Scanner::new(s);
     let mut at = 0;
-    let mut n = 0;
-    let mut last = NO_TOKEN;
+    let mut count = 0;
+    let mut last = None;
     while at < s.len() {
-        if n == tokens.len() {
-            return how_far(true, at, n, last);
+        if count == tokens.len() {
+            return Err(at);
         }
-        last = scan_token(
-            s, at, bound, &leads, &classes, &letters, &starts, &lengths, &kinds, &slots,
-        );
-        tokens[n] = token_word(last.kind, last.len);
-        n += 1;
-        at += last.len;
+        let token = scanner.scan_token(at);
+        tokens[count] = token_word(token.kind, token.len);
+        count += 1;
+        at += token.len;
+        last = Some(token);
     }
-    how_far(false, at, n, last)
+    Ok(Filled { count, last })
 }
 
 // Zeroes every word.
 pub fn clear(words: &mut [u32])
     ensures { words.new ≡ replicate (length words.old) 0 }
 {
-    let mut i = 0;
-    while i < words.len() {
-        words[i] = 0;
-        i += 1;
-    }
+    words.fill(0);
 }
 
 // A sum, at most a cap.
 fn add_capped(a: usize, b: usize, cap: usize) -> usize
-    requires { a ≤ cap }
     ensures { result ≡ min (a + b) cap }
 {
-    if b < cap - a {
-        return a + b;
-    }
-    cap
+    a.saturating_add(b).min(cap)
+}
+
+// The lengths in the first words, added up to a cap.
+fn added_up(words: &[u32], number: usize, cap: usize) -> usize
+    ensures { result ≡ fold (λ at w. min (at + length_in w) cap) 0 (take number words.now) }
+{
+    words
+        .iter()
+        .take(number)
+        .fold(0, |at, w| add_capped(at, length_in(*w), cap))
 }
 
 // The sum of the lengths in the first words, at most a cap.
 pub fn token_start(words: &[u32], number: usize, cap: usize) -> usize
     ensures { result ≡ min (total (take number words.now)) cap }
 {
-    let mut at = 0;
-    let mut k = 0;
-    while k < number {
-        if words.len() <= k {
-            return at;
-        }
-        let n = length_in(words[k]);
-        at = add_capped(at, n, cap);
-        k += 1;
-    }
-    at
+    added_up(words, number, cap)
+}
+
+// The part from a place to another, or the empty part where the second is past the end.
+fn part(src: &[u8], from: usize, end: usize) -> &[u8]
+    requires { from ≤ end }
+    ensures inside { end ≤ length src.now → result.now ≡ take (end - from) (drop from src.now) }
+    ensures past { length src.now < end → result.now ≡ [] }
+{
+    src.get(from..end).unwrap_or(&[])
 }
 
 // The text of a token, by its number: a part of the lent text, or the empty part. The words may be any.
 pub fn token_text<'a>(src: &'a [u8], words: &[u32], number: usize) -> &'a [u8]
     ensures { result.now ≡ token_text src.now words.now number }
 {
-    if words.len() <= number {
-        return &src[..0];
-    }
-    let cap = src.len() + 1;
-    let from = token_start(words, number, cap);
-    let n = length_in(words[number]);
-    let end = add_capped(from, n, cap);
-    if src.len() < end {
-        return &src[..0];
-    }
-    &src[from..end]
+    let Some(word) = words.get(number) else {
+        return &[];
+    };
+    let from = token_start(words, number, src.len() + 1);
+    let end = from.saturating_add(length_in(*word));
+    part(src, from, end)
 }
 
-const NO_NUMBER: Number = Number {
-    kind: 0,
-    len: 0,
-    base: Span { begin: 0, end: 0 },
-    inner: Span { begin: 0, end: 0 },
-    closed: false,
-    exponent: false,
-};
+// The number that a token is, by its number, if there is such a token and a number of its kind and length stands there.
+fn number_there(src: &[u8], words: &[u32], number: usize) -> Option<Number>
+    ensures { unwrap_or result no_number ≡ number_parts src.now words.now number }
+{
+    let word = *words.get(number)?;
+    let at = token_start(words, number, src.len());
+    let first = peek(src, at);
+    if !((b'0' <= first) & (first <= b'9')) {
+        return None;
+    }
+    let d = run_end(src, at, DIGITS);
+    let n = number_from(src, at, d);
+    if (n.kind == kind_in(word)) & (n.len == length_in(word)) {
+        return Some(n);
+    }
+    None
+}
 
 // The parts of the number that a token is, by its number: all zero where there is no such token or no number of its kind and length stands there. The words
 // may be any.
@@ -166,31 +140,7 @@ pub fn number_parts(src: &[u8], words: &[u32], number: usize) -> Number
     ensures parts { result ≡ number_parts src.now words.now number }
     ensures parts_hold { PartsHold (from_token src.now words.now number) result }
 {
-    if words.len() <= number {
-        return NO_NUMBER;
-    }
-    let at = token_start(words, number, src.len());
-    let first = peek(src, at);
-    if !((b'0' <= first) & (first <= b'9')) {
-        return NO_NUMBER;
-    }
-    let classes = class_table();
-    let d = run_end(src, at, DIGITS, &classes);
-    let n = number_from(src, at, d, &classes);
-    let word = words[number];
-    if (n.kind == kind_in(word)) & (n.len == length_in(word)) {
-        return n;
-    }
-    NO_NUMBER
-}
-
-fn bit(b: bool) -> usize
-    ensures { result ≡ bit b }
-{
-    if b {
-        return 1;
-    }
-    0
+    number_there(src, words, number).unwrap_or_default()
 }
 
 // A number as eight numbers in a row, as it is told outside.
@@ -204,8 +154,8 @@ pub fn part_numbers(n: Number) -> [usize; 8]
         n.base.end,
         n.inner.begin,
         n.inner.end,
-        bit(n.closed),
-        bit(n.exponent),
+        usize::from(n.closed),
+        usize::from(n.exponent),
     ]
 }
 
@@ -223,9 +173,7 @@ pub fn refuse(tokens: &mut [u32], number: u32, place: usize) -> Answer
     Answer {
         number,
         place,
-        tokens: 0,
-        taken: 0,
-        events: 0,
+        ..Answer::default()
     }
 }
 
@@ -235,26 +183,24 @@ pub fn tokenize_within(src: &[u8], tokens: &mut [u32], limits: Limits) -> Answer
     ensures { MakesTokensCall limits src tokens result }
 {
     if limits.bytes < src.len() {
-        return refuse(tokens, 1, limits.bytes);
+        return refuse(tokens, Refusal::TooLong as u32, limits.bytes);
     }
     let v = valid_up_to(src);
     if v != src.len() {
-        return refuse(tokens, 2, v);
+        return refuse(tokens, Refusal::IllFormed as u32, v);
     }
-    let f = fill(src, tokens);
-    if f.full {
-        return refuse(tokens, 3, f.at);
-    }
-    let last = f.last;
-    if !last.closed {
-        return refuse(tokens, 8, src.len() - last.len);
+    let filled = match fill(src, tokens) {
+        Ok(filled) => filled,
+        Err(at) => return refuse(tokens, Refusal::NoTokenWord as u32, at),
+    };
+    if let Some(last) = filled.last {
+        if !last.closed {
+            return refuse(tokens, Refusal::NotClosed as u32, src.len() - last.len);
+        }
     }
     Answer {
-        number: 0,
-        place: 0,
-        tokens: f.count,
-        taken: 0,
-        events: 0,
+        tokens: filled.count,
+        ..Answer::default()
     }
 }
 

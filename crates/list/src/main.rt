@@ -3,7 +3,7 @@
 
 #![tactic(auto)]
 
-use listing::{EVENTS, Listing, READ, TOKENS, begin, next_piece};
+use listing::{EVENTS, Listing, READ, TOKENS, begin};
 use std::env::FillError;
 use std::io::Read;
 use std::rt::{Env, Files};
@@ -26,54 +26,46 @@ const EILSEQ: i32 = 84;
 
 // Writes the next piece of a listing, and says whether there was one and it went out.
 fn print_piece<R: Print + Eprint>(rt: &R, out: &[u8], count: usize) -> bool {
-    if count == 0 {
-        return false;
+    match out.get(..count) {
+        Some(piece) if !piece.is_empty() => write_out(rt, piece),
+        _ => false,
     }
-    if out.len() < count {
-        return false;
-    }
-    write_out(rt, &out[..count])
 }
 
-// A proved loop has to end: it counts its turns down, from a number that no run uses up.
+// A proved loop has to end: it has a number of turns, one that no run uses up.
 fn print<R: Print + Eprint>(
     rt: &R,
     text: &[u8; READ],
     tokens: &[u32; TOKENS],
     events: &[u32; EVENTS],
-    l: Listing,
+    mut l: Listing,
 ) {
     let mut out = [0u8; ROOM];
-    let mut at = l;
-    let mut turns = u64::MAX;
-    let mut on = true;
-    while turns > 0 && on {
-        let p = next_piece(text, tokens, events, at, &mut out);
-        on = print_piece(rt, &out, p.count);
-        at = p.listing;
-        turns -= 1;
+    for _ in 0..u64::MAX {
+        let count = l.next_piece(text, tokens, events, &mut out);
+        if !print_piece(rt, &out, count) {
+            break;
+        }
     }
 }
 
 // The listing of what can be read from a stream, which has a name for messages.
 fn list<R: Print + Eprint, F: Read>(rt: &R, from: &mut F, name: &str) {
     let mut text = [0u8; READ];
-    let mut why = None;
-    let got = read_full(from, &mut text, &mut why);
-    if got.failed {
-        tell(rt, name, &why);
-        return;
-    }
+    let count = match read_full(from, &mut text) {
+        Ok(count) => count,
+        Err(why) => return tell(rt, name, &Some(why)),
+    };
     let mut tokens = [0u32; TOKENS];
     let mut events = [0u32; EVENTS];
-    let l = begin(&text, got.count, &mut tokens, &mut events);
+    let l = begin(&text, count, &mut tokens, &mut events);
     print(rt, &text, &tokens, &events, l);
 }
 
 fn list_file<R: Files + Print + Eprint>(rt: &R, path: &str) {
     match fs::open(rt, path) {
         Ok(mut file) => list(rt, &mut file, path),
-        Err(e) => tell(rt, path, &Some(e)),
+        Err(why) => tell(rt, path, &Some(why)),
     }
 }
 
@@ -92,17 +84,16 @@ fn refuse<R: Eprint>(rt: &R, error: i32) {
 
 // What one argument asks for. An option begins with `-`, so a file of such a name is given as `./-..`. A file has a name that is text.
 fn answer<R: Files + Input + Print + Eprint>(rt: &R, arg: &[u8]) {
-    if arg == b"-".as_slice() {
-        list_input(rt);
-    } else if arg == b"--help".as_slice() {
-        write_out(rt, &HELP);
-    } else if 0 < arg.len() && arg[0] == b'-' {
-        tell_usage(rt);
-    } else {
-        match str::from_utf8(arg) {
+    match arg {
+        b"-" => list_input(rt),
+        b"--help" => {
+            write_out(rt, &HELP);
+        }
+        [b'-', ..] => tell_usage(rt),
+        _ => match str::from_utf8(arg) {
             Ok(path) => list_file(rt, path),
             Err(_) => refuse(rt, EILSEQ),
-        }
+        },
     }
 }
 

@@ -2,21 +2,24 @@
 -- left, until none is. Assumes nothing.
 use Prim.Native.Nat.{ℕ, zero, suc, ◌+◌, ◌-◌, ◌≤◌, ◌<◌}
 use native.Mathlib.Omega.{arith}
-use mathlib.Core.Path.{◌≡◌, refl, sym, ap, subst, ◌∙◌}
+use mathlib.Core.Path.{◌≡◌, refl, sym, ap, ◌∙◌}
 use mathlib.Core.Bool.{Bool, true, false, cond}
 use mathlib.Core.List.{List, [], ◌∷◌, ◌++◌, append_assoc}
 use lib.ListN.{length, get_or, take, drop, length-append, drop_of_length-le}
 use lib.Seq.{sets, drop-cons}
 use lib.Dec.{leb}
 use borrow.Author.Tests.{le-leb, lt-leb}
-use Rattle.parser.specs.Input.{Input}
-use Rattle.writing.specs.Written.{Wrote}
+use native.Mathlib.Numerals.{add-one}
+use Rattle.aadl.specs.Encoding.{first_words}
+use Rattle.parser.specs.Input.{Input, input}
+use Rattle.writing.specs.declared.Writer.{Writer}
+use Rattle.writing.specs.Written.{Wrote, Writes}
 use Rattle.writing.proofs.WriteLaws.{sets_append, wrote-long, wrote_none, wrote_then, wrote-same, wrote-front}
 use Rattle.listing.specs.declared.Position.{Position}
 use Rattle.listing.specs.declared.Listing.{Listing}
 use Rattle.listing_lines.specs.Lines.{line_room, line_of, first_line}
 use Rattle.listing.specs.Positions.{step, lines_from}
-use Rattle.listing.specs.Pieces.{joined, piece, behind, left, given, Gave}
+use Rattle.listing.specs.Pieces.{joined, piece, behind, left, given, lines_at, Gave, Puts, GoesOn}
 
 -- LINE BY LINE ---------------------------------------------------------------------------------------------------------
 
@@ -59,10 +62,6 @@ unfolding lines_from
 lines_none inp i ws c h = ap (λ (us : List ℕ). lines_from inp i us c) (drop_of_length-le ws {i = i} h)
 
 -- what is left of a listing: the first line too, if it is not given
-pub left-begun : (text ts es : List ℕ) (l : Listing) → l.begun ≡ true → left text ts es (given l) ≡ left text ts es l
-unfolding left
-left-begun text ts es l e = sym (ap (λ (t : Bool). cond t (left text ts es (given l)) (first_line l.answer ∷ left text ts es (given l))) e)
-
 pub left-whole : (text ts es : List ℕ) (l : Listing) → l.begun ≡ false → first_line l.answer ∷ left text ts es (given l) ≡ left text ts es l
 unfolding left
 left-whole text ts es l e = sym (ap (λ (t : Bool). cond t (left text ts es (given l)) (first_line l.answer ∷ left text ts es (given l))) e)
@@ -115,6 +114,43 @@ module _ {old : List ℕ} {from : ℕ} {lines : List (List ℕ)} {new : List ℕ
   pub filling_whole : rest ≡ [] → Gave (length old - from) from lines old at rest new
   filling_whole e = filling_done (piece-none (length old - at) rest e) (behind-none (length old - at) rest e)
 
+-- A writer in the filling: it keeps to its bytes, and the listing stays what it is but for the event, which is told, and its position.
+pub record Putting (lines : Listing → List (List ℕ)) (l : Listing) (w : Writer) (m : Listing) (v : Writer) (event : ℕ) : Type 0 where
+  pub same : v.out.ghost_name ≡ w.out.ghost_name
+  pub filling : Filling w.out.now w.at (lines l) v.out.now v.at (lines m)
+  pub stays : GoesOn l m
+  pub before : m.event ≡ event
+
+pub putting_starts : (lines : Listing → List (List ℕ)) (l : Listing) (w : Writer) → Putting lines l w l w l.event
+putting_starts lines l w = record { same = refl; filling = filling_starts w.out.now w.at (lines l) w.within; stays = record { stays = refl }; before = refl }
+
+module _ (src toks words : List ℕ) {l m : Listing} {w v : Writer} {i : ℕ} (p : Putting (lines_at src toks words) l w m v i) where
+  pub putting_more : (word : ℕ) (k : Position) {x : Writer} → i < length (first_words words) → word ≡ get_or (first_words words) i 0 → line_room ≤ length v.out.now - v.at →
+      Writes v (line_of i word m.position.spot.line m.position.spot.column) x → length (line_of i word m.position.spot.line m.position.spot.column) ≤ line_room →
+      k ≡ step (input src toks) word m.position →
+      Putting (lines_at src toks words) l w (record { bytes = m.bytes; answer = m.answer; begun = m.begun; event = i + 1; position = k }) x (i + 1)
+  putting_more word k h q room x fits e =
+      let inp = input src toks in
+      let ws = first_words words in
+      let one = sym (add-one i) in
+      let next = sym (e ∙ ap (λ (u : ℕ). step inp u m.position) q) in
+      let split = (λ t. lines_from inp (p.before t) (drop (p.before t) ws) m.position) ∙ lines_more inp i ws m.position h
+      ∙ (λ t. line_of i (sym q t) m.position.spot.line m.position.spot.column ∷ lines_from inp (one t) (drop (one t) ws) (next t)) in
+      record {
+        same = x.same ∙ p.same;
+        filling = filling_more p.filling _ _ split (omega (arith, p.filling.long)) fits x.wrote;
+        stays =
+            (let e = p.stays.stays in
+            record { stays = λ t. record { bytes = (e t).bytes; answer = (e t).answer; begun = (e t).begun; event = i + 1; position = k } });
+        before = refl;
+      }
+
+  pub putting_full : length v.out.now - v.at < line_room → Puts (lines_at src toks words l) (lines_at src toks words m) w v
+  putting_full h = record { same = p.same; gave = filling_full p.filling (omega (arith, p.filling.long)) }
+
+  pub putting_whole : length (first_words words) ≤ i → Puts (lines_at src toks words l) (lines_at src toks words m) w v
+  putting_whole h = record { same = p.same; gave = filling_whole p.filling (lines_none (input src toks) m.event (first_words words) m.position (omega (arith, p.before))) }
+
 -- PIECES AS THEY ARE GIVEN ---------------------------------------------------------------------------------------------
 
 -- The same of other lines that are equal.
@@ -127,33 +163,44 @@ gave-same {room} {from} {ls} {ms} {old} {end} {rest} {after} {new} g e r =
       leaves = sym r ∙ g.leaves ∙ ap (behind room) e;
     }
 
-pub gave-room : {room size from : ℕ} {ls : List (List ℕ)} {old : List ℕ} {end : ℕ} {rest : List (List ℕ)} {new : List ℕ} →
-    Gave room from ls old end rest new → room ≡ size → Gave size from ls old end rest new
-gave-room {room} {size} {from} {ls} {old} {end} {rest} {new} g e = subst (λ (n : ℕ). Gave n from ls old end rest new) e g
-
 -- A first line, and then a piece of the others behind it.
-pub gave_after : {ls : List (List ℕ)} {old mid : List ℕ} {at end : ℕ} {rest : List (List ℕ)} {new : List ℕ} (l : List ℕ) → line_room ≤ length old →
-    length l ≤ line_room → Wrote old 0 l mid at → Gave (length mid - at) at ls mid end rest new → Gave (length old) 0 (l ∷ ls) old end rest new
-gave_after {ls} {old} {mid} {at} {end} {rest} {new} l room h w g =
-    let n : at ≡ length l = omega (arith, w.ends) in
-    let r : length mid - at ≡ length old - length l = omega (arith, n, wrote-long w) in
-    let p = ap (λ (k : ℕ). l ++ piece k ls) r ∙ sym (piece-more (length old) l ls room) in
+gave_after : {ls : List (List ℕ)} {old mid : List ℕ} {from at end : ℕ} {rest : List (List ℕ)} {new : List ℕ} (l : List ℕ) → line_room ≤ length old - from →
+    length l ≤ line_room → Wrote old from l mid at → Gave (length mid - at) at ls mid end rest new → Gave (length old - from) from (l ∷ ls) old end rest new
+gave_after {ls} {old} {mid} {from} {at} {end} {rest} {new} l room h w g =
+    let n : at ≡ from + length l = omega (arith, w.ends) in
+    let r : length mid - at ≡ length old - from - length l = omega (arith, n, wrote-long w) in
+    let p = ap (λ (k : ℕ). l ++ piece k ls) r ∙ sym (piece-more (length old - from) l ls room) in
     record {
       wrote = wrote-same (wrote_then w g.wrote) p;
       whole = omega (arith, g.whole, n, wrote-long w, length-append l (piece (length mid - at) ls), ap length p);
-      leaves = g.leaves ∙ ap (λ (k : ℕ). behind k ls) r ∙ sym (behind_more (length old) l ls room);
+      leaves = g.leaves ∙ ap (λ (k : ℕ). behind k ls) r ∙ sym (behind_more (length old - from) l ls room);
     }
 
 -- without room for a line
-pub gave-none : (ls : List (List ℕ)) (old : List ℕ) → length old < line_room → Gave (length old) 0 ls old 0 ls old
-gave-none ls old h =
-    let p = piece-full (length old) ls h in
-    record { wrote = wrote-same (wrote_none old 0 0 (omega arith)) (sym p); whole = omega (arith, ap length p); leaves = sym (behind-full (length old) ls h) }
+gave-none : (ls : List (List ℕ)) (old : List ℕ) (from : ℕ) → from ≤ length old → length old - from < line_room → Gave (length old - from) from ls old from ls old
+gave-none ls old from g h =
+    let p = piece-full (length old - from) ls h in
+    record {
+      wrote = wrote-same (wrote_none old from from (omega arith)) (sym p);
+      whole = omega (arith, ap length p);
+      leaves = sym (behind-full (length old - from) ls h);
+    }
 
 -- The buffer's first bytes are the piece.
 pub gave-front : {room : ℕ} {ls : List (List ℕ)} {old : List ℕ} {end : ℕ} {rest : List (List ℕ)} {new : List ℕ} →
     Gave room 0 ls old end rest new → take end new ≡ piece room ls
 gave-front g = wrote-front g.wrote (omega (arith, g.whole))
+
+-- The same of a writer.
+pub puts-same : {ls ms rest : List (List ℕ)} {w v : Writer} → Puts ls rest w v → ls ≡ ms → Puts ms rest w v
+puts-same p e = record { same = p.same; gave = gave-same p.gave e refl }
+
+pub puts_after : {ls rest : List (List ℕ)} {w v x : Writer} {l : List ℕ} → line_room ≤ length w.out.now - w.at → length l ≤ line_room → Writes w l v → Puts ls rest v x →
+    Puts (l ∷ ls) rest w x
+puts_after {l = l} room h w p = record { same = p.same ∙ w.same; gave = gave_after l room h w.wrote p.gave }
+
+pub puts_none : (ls : List (List ℕ)) (w : Writer) → length w.out.now - w.at < line_room → Puts ls ls w w
+puts_none ls w h = record { same = refl; gave = gave-none ls w.out.now w.at w.within h }
 
 -- FROM PIECE TO PIECE --------------------------------------------------------------------------------------------------
 

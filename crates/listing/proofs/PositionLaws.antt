@@ -22,10 +22,9 @@ use Rattle.aadl.proofs.Characters.{WellFormed}
 use Rattle.aadl.proofs.EventPairs.{first_words-of}
 use Rattle.aadl.proofs.EventWords.{words-tell_events}
 use Rattle.aadl.proofs.AnswerDerived.{answered-whole}
-use Rattle.parser.specs.declared.Parser.{Parser}
+use Rattle.parser.specs.Counters.{Place, Counters}
 use Rattle.aadl.specs.Tokens.{kind_in}
-use Rattle.parser.specs.Input.{Input, input, past, skip, after_one, next, new}
-use Rattle.parser.specs.State.{state, going, passed, pass}
+use Rattle.parser.specs.Input.{Input, input, past, skip, after_one, new}
 use Rattle.section.specs.Standing.{Behind}
 use Rattle.section.proofs.Places.{behind-byte, new-behind, next-behind}
 use Rattle.positions.specs.declared.Spot.{Spot}
@@ -38,23 +37,24 @@ use Rattle.positions.proofs.SpotLaws.{spot-in_steps}
 use Rattle.listing_lines.proofs.LineLaws.{event_line-at, listing-is}
 
 abbrev with_token : Input → Position → Position
-with_token inp c = position_at inp (behind_token inp c.parser) c.spot
+with_token inp c = position_at inp (behind_token inp c) c.spot
 
 -- AS THE CODE HAS IT ---------------------------------------------------------------------------------------------------
 
-pub begin-is : (inp : Input) {p : Parser} {f s : Spot} → p ≡ new inp 0 → f ≡ first → s ≡ spot_after inp.text f p.byte →
-    record { parser = p; spot = s } ≡ begin inp
-unfolding begin
-begin-is inp e f g =
-    let q = g ∙ ap₂ (λ (x : Spot) (y : Parser). spot_after inp.text x y.byte) f e in
-    λ i. record { parser = e i; spot = q i }
+-- a place, and the spot of its byte, from another spot on
+placed : (inp : Input) (p : Place) (f : Spot) {at byte : ℕ} {s : Spot} → at ≡ p.at → byte ≡ p.byte → s ≡ spot_after inp.text f byte →
+    record { at = at; byte = byte; spot = s } ≡ position_at inp p f
+placed inp p f e b g = λ i. record { at = e i; byte = b i; spot = (g ∙ ap (spot_after inp.text f) b) i }
 
-pub step-token : (inp : Input) (w : ℕ) (c : Position) {p : Parser} {s : Spot} → class_in w ≡ 1 →
-    p ≡ behind_token inp c.parser → s ≡ spot_after inp.text c.spot p.byte → record { parser = p; spot = s } ≡ step inp w c
+pub begin-is : (inp : Input) {at byte : ℕ} {f s : Spot} → at ≡ (skip inp.text 0 0 inp.words).at → byte ≡ (skip inp.text 0 0 inp.words).byte → f ≡ first →
+    s ≡ spot_after inp.text f byte → record { at = at; byte = byte; spot = s } ≡ begin inp
+unfolding begin
+begin-is inp {byte = byte} e b f g = placed inp _ first e b (g ∙ ap (λ (x : Spot). spot_after inp.text x byte) f)
+
+pub step-token : (inp : Input) (w : ℕ) (c : Position) {at byte : ℕ} {s : Spot} → class_in w ≡ 1 → at ≡ (behind_token inp c).at → byte ≡ (behind_token inp c).byte →
+    s ≡ spot_after inp.text c.spot byte → record { at = at; byte = byte; spot = s } ≡ step inp w c
 unfolding step
-step-token inp w c h e g =
-    let q = g ∙ ap (λ (y : Parser). spot_after inp.text c.spot y.byte) e in
-    (λ i. record { parser = e i; spot = q i }) ∙ sym (ap (λ (t : Bool). cond t (with_token inp c) c) (eq-eqb (class_in w) 1 h))
+step-token inp w c h e b g = placed inp _ c.spot e b g ∙ sym (ap (λ (t : Bool). cond t (with_token inp c) c) (eq-eqb (class_in w) 1 h))
 
 pub step_other : (inp : Input) (w : ℕ) (c : Position) → (class_in w ≡ 1 → ⊥) → c ≡ step inp w c
 unfolding step
@@ -98,9 +98,11 @@ after-one_later text i b (w ∷ ws) h = omega (arith, h, skip-later text (suc i)
 -- FROM EVENT TO EVENT --------------------------------------------------------------------------------------------------
 
 -- The position stands behind t tokens that are taken.
+abbrev counted : Position → Counters
+counted c = record { at = c.at; byte = c.byte; taken = 0; used = 0; left = 0; stop = 0 }
+
 pub record Stands (text : List ℕ) (t : ℕ) (c : Position) : Type 0 where
-  pub goes : c.parser.stop ≡ 0
-  pub behind : Behind text t c.parser
+  pub behind : Behind text t (counted c)
   pub spot : c.spot ≡ spot_after text first (start_of text t)
 
 module _ (text : List ℕ) (short : length text < 65536) where
@@ -111,24 +113,17 @@ module _ (text : List ℕ) (short : length text < 65536) where
   unfolding begin new
   begin-stands =
       let b = new-behind text 0 short in
-      record { goes = refl; behind = b; spot = ap (spot_after text first) (behind-byte text 0 (new inp 0) b) }
-
-  -- a parser that goes on passes a token
-  goes_on : (p : Parser) → p.stop ≡ 0 → behind_token inp p ≡ (passed inp (state p [])).parser
-  unfolding pass going
-  goes_on p e = ap (λ (t : Bool). (cond t (passed inp (state p [])) (state p [])).parser) (eq-eqb p.stop 0 e)
+      record { behind = b; spot = ap (spot_after text first) (behind-byte text 0 (new inp 0) b) }
 
   token-stands : (t : ℕ) (c : Position) → Stands text t c → Stands text (suc t) (with_token inp c)
   token-stands t c x =
-      let p = c.parser in
-      let q = behind_token inp p in
-      let e = goes_on p x.goes in
-      let byte-is : q.byte ≡ (next inp p).byte = ap (λ (r : Parser). r.byte) e in
-      let b = next-behind text t p q x.behind (ap (λ (r : Parser). r.at) e) byte-is in
-      let l : p.byte ≤ q.byte = omega (arith, byte-is, after-one_later text p.at p.byte (drop p.at (token_words text)) (omega (arith, x.behind.where_it_is.tiles))) in
+      let p = counted c in
+      let q = counted (with_token inp c) in
+      let b = next-behind text t p q x.behind refl refl in
+      let l : p.byte ≤ q.byte = omega (arith, after-one_later text p.at p.byte (drop p.at (token_words text)) (omega (arith, x.behind.where_it_is.tiles))) in
       let s = behind-byte text (suc t) q b in
       let m : start_of text t ≤ start_of text (suc t) = omega (arith, l, s, behind-byte text t p x.behind) in
-      record { goes = ap (λ (r : Parser). r.stop) e ∙ x.goes; behind = b; spot = ap₂ (spot_after text) x.spot s ∙ spot-in_steps text first (start_of text t) (start_of text (suc t)) m }
+      record { behind = b; spot = ap₂ (spot_after text) x.spot s ∙ spot-in_steps text first (start_of text t) (start_of text (suc t)) m }
 
   step-stands : (e : Event) (t : ℕ) (c : Position) → event_in (event_word e) ≡ e → Stands text t c →
       Stands text (t + taken (e ∷ [])) (step inp (event_word e) c)

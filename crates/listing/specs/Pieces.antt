@@ -9,9 +9,9 @@ use Rattle.aadl.specs.Promises.{SectionCalled}
 use Rattle.aadl.specs.Slices.{Slice, MutSlice}
 use Rattle.aadl.specs.Slices as Slices
 use Rattle.parser.specs.Input.{input}
+use Rattle.writing.specs.declared.Writer.{Writer}
 use Rattle.writing.specs.Written.{Wrote}
 use Rattle.listing.specs.declared.Listing.{Listing}
-use Rattle.listing.specs.declared.Position.{Position}
 use Rattle.listing_lines.specs.Lines.{line_room, first_line}
 use Rattle.listing.specs.Positions.{begin, lines_from}
 
@@ -70,10 +70,14 @@ module _ (text tokens events : Slice) (out : MutSlice) (room from : ℕ) where
       let rest = left (Slices.held text) (Slices.held tokens) (Slices.held events) in
       Gave room from (rest l) (Slices.before out) end (rest next) (Slices.after out)
 
--- The same of the lines of events, from an event and its position on.
-module _ (src toks words : Slice) (out : MutSlice) where
-  abbrev lines_at : (event : ℕ) → Position → List (List ℕ)
-  lines_at n k = lines_from (input (Slices.held src) (Slices.held toks)) n (drop n (first_words (Slices.held words))) k
+-- Lines of a listing are given by a writer, from where it stands, with all the room that it has: of these lines to those that are left.
+pub record Puts (lines rest : List (List ℕ)) (w after : Writer) : Type 0 where
+  pub same : after.out.ghost_name ≡ w.out.ghost_name
+  pub gave : Gave (length w.out.now - w.at) w.at lines w.out.now after.at rest after.out.now
 
-  abbrev pub GivesLines : (from event : ℕ) → Position → (end next : ℕ) → Position → Type 0
-  GivesLines from n k end m j = Gave (length (Slices.before out) - from) from (lines_at n k) (Slices.before out) end (lines_at m j) (Slices.after out)
+-- The lines of events, from where a listing stands; it stays what it is but for the event and its position.
+abbrev pub lines_at : (src toks words : List ℕ) → Listing → List (List ℕ)
+lines_at src toks words l = lines_from (input src toks) l.event (drop l.event (first_words words)) l.position
+
+pub record GoesOn (l next : Listing) : Type 0 where
+  pub stays : next ≡ record { bytes = l.bytes; answer = l.answer; begun = l.begun; event = next.event; position = next.position }

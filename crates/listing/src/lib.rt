@@ -3,20 +3,20 @@
 
 #![tactic(auto)]
 
-ghost use Rattle.std.specs.Prelude.{◌-◌, ◌≤◌, ◌≡◌, length};
+ghost use Rattle.std.specs.Prelude.{◌≡◌, length};
 ghost use Rattle.aadl.specs.Limits.{base, Allowed};
 ghost use Rattle.parser.specs.Input.{input};
 ghost use Rattle.listing.specs.Positions.{begin as begin-at, step};
-ghost use Rattle.listing.specs.Pieces.{given, Gives, GivesLines, Begun};
+ghost use Rattle.listing.specs.Pieces.{left, given, lines_at, Gives, Puts, GoesOn, Begun};
 
 use aadl::{Answer, Limits};
 use codec::{EVENT_WORDS, class_in, events_told, first_word};
 use lexer::BASE;
 use listing_lines::{put_first, put_line};
-use parser::{Parser, new, pass};
+use parser::Tokens;
 use positions::{Spot, first_spot, spot_at};
 use section::property_section_within;
-use writing::least;
+use writing::Writer;
 
 // How many bytes of a text are read: one more than may be, so that a longer text is refused for that one.
 pub const READ: usize = 32769;
@@ -29,10 +29,11 @@ pub const EVENTS: usize = 16384;
 // The room that is left for a line: none is longer.
 const LINE: usize = 80;
 
-// Where a listing stands among the events: the parser behind the tokens that were taken, and the spot of the next one.
+// Where a listing stands among the events: behind the tokens that were taken, and at the spot of the next one.
 #[derive(Clone, Copy)]
 pub struct Position {
-    pub parser: Parser,
+    pub at: usize,
+    pub byte: usize,
     pub spot: Spot,
 }
 
@@ -46,139 +47,113 @@ pub struct Listing {
     pub position: Position,
 }
 
-// Bytes of a listing, as many as are counted, and where it stands behind them.
-#[derive(Clone, Copy)]
-pub struct Piece {
-    pub count: usize,
-    pub listing: Listing,
-}
-
-// Behind some events: how far the bytes are written, the next event, and the position before it.
-#[derive(Clone, Copy)]
-struct Reached {
-    at: usize,
-    event: usize,
-    position: Position,
-}
-
-// Before the first event.
-fn first_position(src: &[u8], toks: &[u32]) -> Position
-    ensures { result ≡ begin-at (input src.now toks.now) }
-{
-    let p = new(src, toks, 0);
-    let s = spot_at(src, first_spot(), p.byte);
-    Position { parser: p, spot: s }
-}
-
-// After the event of a word. A Token's takes a token.
-fn next_position(src: &[u8], toks: &[u32], word: u32, c: Position) -> Position
-    ensures { result ≡ step (input src.now toks.now) word c }
-{
-    let p = c.parser;
-    let s = c.spot;
-    if class_in(word) == 1 {
-        let q = pass(src, toks, p);
-        let t = spot_at(src, s, q.byte);
-        return Position { parser: q, spot: t };
+impl Position {
+    // Before the first event.
+    fn first(src: &[u8], toks: &[u32]) -> Position
+        ensures { result ≡ begin-at (input src.now toks.now) }
+    {
+        let t = Tokens::new(src, toks);
+        let spot = spot_at(src, first_spot(), t.byte);
+        Position {
+            at: t.at,
+            byte: t.byte,
+            spot,
+        }
     }
-    Position { parser: p, spot: s }
-}
 
-// Writes the lines of events from one on, while there is room for a line.
-fn put_lines(
-    src: &[u8],
-    toks: &[u32],
-    words: &[u32],
-    event: usize,
-    position: Position,
-    out: &mut [u8],
-    from: usize,
-) -> Reached
-    requires { from ≤ length out.old }
-    ensures { GivesLines src toks words out from event position result.at result.event result.position }
-{
-    let told = events_told(words);
-    let mut at = from;
-    let mut i = event;
-    let mut c = position;
-    while i < told && LINE <= out.len() - at {
-        let w = first_word(words, i);
-        let s = c.spot;
-        at = put_line(out, at, i, w, s);
-        c = next_position(src, toks, w, c);
-        i += 1;
-    }
-    Reached {
-        at,
-        event: i,
-        position: c,
+    // After the event of a word. A Token's takes a token.
+    fn behind(self, src: &[u8], toks: &[u32], word: u32) -> Position
+        ensures { result ≡ step (input src.now toks.now) word self }
+    {
+        if class_in(word) == 1 {
+            let mut t = Tokens {
+                text: src,
+                words: toks,
+                at: self.at,
+                byte: self.byte,
+            };
+            t.pass();
+            let spot = spot_at(src, self.spot, t.byte);
+            return Position {
+                at: t.at,
+                byte: t.byte,
+                spot,
+            };
+        }
+        self
     }
 }
 
-// The lines of events from where a listing stands, behind the bytes that are written.
-fn more(
-    text: &[u8; READ],
-    tokens: &[u32; TOKENS],
-    events: &[u32; EVENTS],
-    l: Listing,
-    out: &mut [u8],
-    from: usize,
-) -> Piece
-    requires { from ≤ length out.old }
-    ensures { Gives text tokens events out (length out.old - from) from (given l) result.count result.listing }
-{
-    let a = l.answer;
-    let c = l.position;
-    let text: &[u8] = text;
-    let tokens: &[u32] = tokens;
-    let events: &[u32] = events;
-    let n = least(l.bytes, READ);
-    let t = least(a.tokens, TOKENS);
-    let e = least(a.events, EVENTS / EVENT_WORDS) * EVENT_WORDS;
-    let r = put_lines(
-        &text[..n],
-        &tokens[..t],
-        &events[..e],
-        l.event,
-        c,
-        out,
-        from,
-    );
-    let d = r.position;
-    Piece {
-        count: r.at,
-        listing: Listing {
-            bytes: l.bytes,
-            answer: a,
-            begun: true,
-            event: r.event,
-            position: d,
-        },
+impl Listing {
+    // Writes the lines of events from where the listing stands, while there is room for a line.
+    fn put_lines(&mut self, src: &[u8], toks: &[u32], words: &[u32], w: &mut Writer)
+        ensures lines { Puts (lines_at src.now toks.now words.now self.old) (lines_at src.now toks.now words.now self.new) w.old w.new }
+        ensures stays { GoesOn self.old self.new }
+    {
+        for i in self.event..events_told(words) {
+            if w.room() < LINE {
+                return;
+            }
+            let word = first_word(words, i);
+            put_line(w, i, word, self.position.spot);
+            self.position = self.position.behind(src, toks, word);
+            self.event = i + 1;
+        }
     }
-}
 
-// The next bytes of a listing, and where it stands behind them: whole lines, as many as the lent bytes take.
-pub fn next_piece(
-    text: &[u8; READ],
-    tokens: &[u32; TOKENS],
-    events: &[u32; EVENTS],
-    l: Listing,
-    out: &mut [u8],
-) -> Piece
-    ensures { Gives text tokens events out (length out.old) 0 l result.count result.listing }
-{
-    if l.begun {
-        return more(text, tokens, events, l, out, 0);
+    // Writes the lines of events from where the listing stands, of the bytes that were read and of the words that its answer counts.
+    fn more(
+        &mut self,
+        text: &[u8; READ],
+        tokens: &[u32; TOKENS],
+        events: &[u32; EVENTS],
+        w: &mut Writer,
+    )
+        ensures { Puts (left text.now tokens.now events.now (given self.old)) (left text.now tokens.now events.now self.new) w.old w.new }
+    {
+        let n = self.bytes.min(READ);
+        let t = self.answer.tokens.min(TOKENS);
+        let e = self.answer.events.min(EVENTS / EVENT_WORDS) * EVENT_WORDS;
+        self.begun = true;
+        self.put_lines(&text[..n], &tokens[..t], &events[..e], w);
     }
-    if out.len() < LINE {
-        return Piece {
-            count: 0,
-            listing: l,
-        };
+
+    // Writes the next lines of a listing, the first one too if it is not given.
+    fn put_piece(
+        &mut self,
+        text: &[u8; READ],
+        tokens: &[u32; TOKENS],
+        events: &[u32; EVENTS],
+        w: &mut Writer,
+    )
+        ensures { Puts (left text.now tokens.now events.now self.old) (left text.now tokens.now events.now self.new) w.old w.new }
+    {
+        if self.begun {
+            self.more(text, tokens, events, w);
+            return;
+        }
+        if w.room() < LINE {
+            return;
+        }
+        put_first(w, self.answer);
+        self.more(text, tokens, events, w);
     }
-    let a = l.answer;
-    let at = put_first(out, a);
-    more(text, tokens, events, l, out, at)
+
+    // The next bytes of a listing, which then stands behind them, and how many they are: whole lines, as many as the lent bytes take. Text and words are lent
+    // to each call and are no fields, since it is a promise of `begin` what the words hold behind it (`Begun`).
+    pub fn next_piece(
+        &mut self,
+        text: &[u8; READ],
+        tokens: &[u32; TOKENS],
+        events: &[u32; EVENTS],
+        out: &mut [u8],
+    ) -> usize
+        ensures { Gives text tokens events out (length out.old) 0 self.old result self.new }
+    {
+        let mut w = Writer::new(out, 0);
+        self.put_piece(text, tokens, events, &mut w);
+        w.at
+    }
 }
 
 // Makes the section call within limits on the first bytes of a text, as many as were read, with the words that are lent, and stands before the
@@ -194,12 +169,12 @@ fn begin_within(
     ensures { Begun limits text.now bytes tokens.old events.old result tokens.new events.new }
 {
     let text: &[u8] = text;
-    let n = least(bytes, READ);
+    let n = bytes.min(READ);
     let src = &text[..n];
     let a = property_section_within(src, tokens, events, limits);
-    let t = least(a.tokens, TOKENS);
+    let t = a.tokens.min(TOKENS);
     let toks: &[u32] = tokens;
-    let c = first_position(src, &toks[..t]);
+    let c = Position::first(src, &toks[..t]);
     Listing {
         bytes,
         answer: a,

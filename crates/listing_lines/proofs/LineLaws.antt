@@ -76,12 +76,13 @@ abbrev line-fields : (n : ℕ) → (x : List ℕ) → (k y l c : ℕ) → List �
 line-fields n x k y l c =
     ((((((decimal n ++ (44 ∷ [])) ++ x) ++ (44 ∷ [])) ++ (decimal k ++ (44 ∷ []))) ++ (decimal y ++ (44 ∷ []))) ++ (decimal l ++ (44 ∷ []))) ++ (decimal c ++ (10 ∷ []))
 
-pub line-parts : (n w l c : ℕ) (x : List ℕ) (k y : ℕ) → x ≡ letter (event_in w) → k ≡ (fields (event_in w)).1 → y ≡ (fields (event_in w)).2 →
-    line-fields n x k y l c ≡ line_of n w l c
+pub line-parts : (n w : ℕ) (x : List ℕ) (k y l c i j : ℕ) → x ≡ letter (event_in w) → k ≡ (fields (event_in w)).1 → y ≡ (fields (event_in w)).2 → i ≡ l → j ≡ c →
+    line-fields n x k y i j ≡ line_of n w l c
 unfolding line_of
-line-parts n w l c x k y p q r = simp append_assoc (λ i. row (decimal n ∷ p i ∷ decimal (q i) ∷ decimal (r i) ∷ decimal l ∷ decimal c ∷ []))
+line-parts n w x k y l c i j p q r s t =
+    simp append_assoc (λ z. row (decimal n ∷ p z ∷ decimal (q z) ∷ decimal (r z) ∷ decimal (s z) ∷ decimal (t z) ∷ []))
 
-abbrev refusal-fields : (n p : ℕ) → List ℕ
+abbrev pub refusal-fields : (n p : ℕ) → List ℕ
 refusal-fields n p = (bytes "refused," ++ (decimal n ++ (44 ∷ []))) ++ (decimal p ++ (10 ∷ []))
 
 pub refusal-parts : (n p : ℕ) → refusal-fields n p ≡ refusal_line n p
@@ -90,12 +91,18 @@ refusal-parts n p = simp append_assoc
 
 -- NO LINE IS LONGER THAN ITS ROOM --------------------------------------------------------------------------------------
 
-pub line-fits : (n : ℕ) (x : ℕ) (k y l c : ℕ) → n < 10 ^ 20 → k < 10 ^ 10 → y < 10 ^ 10 → l < 10 ^ 10 → c < 10 ^ 10 → length (line-fields n (x ∷ []) k y l c) ≤ line_room
-line-fits n x k y l c hn hk hy hl hc =
-    simp length-append (omega (arith, decimal-length 19 n hn, decimal-length 9 k hk, decimal-length 9 y hy, decimal-length 9 l hl, decimal-length 9 c hc))
+short : (n : ℕ) → n < 2 ^ 32 → length (decimal n) ≤ 10
+short n h = decimal-length 10 n (omega arith) (omega arith) (omega arith)
 
-pub refusal-fits : (n p : ℕ) → n < 10 ^ 10 → p < 10 ^ 20 → length (refusal-fields n p) ≤ line_room
-refusal-fits n p hn hp = simp length-append (omega (arith, decimal-length 9 n hn, decimal-length 19 p hp))
+long : (n : ℕ) → n < 2 ^ 64 → length (decimal n) ≤ 20
+long n h = decimal-length 20 n (omega arith) (omega arith) h
+
+pub line-fits : (n : ℕ) (x : ℕ) (k y l c : ℕ) → n < 2 ^ 64 → k < 2 ^ 32 → y < 2 ^ 32 → l < 2 ^ 32 → c < 2 ^ 32 → length (line-fields n (x ∷ []) k y l c) ≤ line_room
+line-fits n x k y l c hn hk hy hl hc =
+    simp length-append (omega (arith, long n hn, short k hk, short y hy, short l hl, short c hc))
+
+pub refusal-fits : (n p : ℕ) → n < 2 ^ 32 → p < 2 ^ 64 → length (refusal-fields n p) ≤ line_room
+refusal-fits n p hn hp = simp length-append (omega (arith, short n hn, long p hp))
 
 pub header-fits : length header ≤ line_room
 unfolding header

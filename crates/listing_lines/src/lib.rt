@@ -11,12 +11,7 @@ ghost use Rattle.listing_lines.specs.Lines.{line_room, line_of, refusal_line, fi
 use aadl::Answer;
 use codec::{class_in, kind_in, last_in};
 use positions::Spot;
-use writing::{put_byte, put_decimal, put_text};
-
-// The listing's first line, and the first field of a refusal with its comma.
-const HEADER: [u8; 34] = *b"event,class,kind,last,line,column\n";
-
-const REFUSED: [u8; 8] = *b"refused,";
+use writing::Writer;
 
 // Class letter, kind and last of an event word.
 #[derive(Clone, Copy)]
@@ -26,7 +21,7 @@ struct Fields {
     last: u32,
 }
 
-// The fields that an event word shows. The word may be any.
+// The fields that an event word shows. The word may be any, so its class is matched as a number, as `event_by` does.
 fn fields_in(word: u32) -> Fields
     ensures { ((result.letter ∷ []) ≡ letter (event_in word)) × (result.kind ≡ (fields (event_in word)).1) × (result.last ≡ (fields (event_in word)).2) }
 {
@@ -57,44 +52,46 @@ fn fields_in(word: u32) -> Fields
 }
 
 // Writes a number and the byte after it, a comma or LF.
-fn put_field(out: &mut [u8], at: usize, n: u64, after: u8) -> usize
-    ensures { Writes out at (decimal n ++ (after ∷ [])) result }
+fn put_field(w: &mut Writer, n: u64, after: u8)
+    ensures { Writes w.old (decimal n ++ (after ∷ [])) w.new }
 {
-    let end = put_decimal(out, at, n);
-    put_byte(out, end, after)
+    w.put_decimal(n);
+    w.put_byte(after);
 }
 
 // Writes the line of an event, by its number, its word and its spot.
-pub fn put_line(out: &mut [u8], at: usize, number: usize, word: u32, s: Spot) -> usize
-    ensures { Writes out at (line_of number word s.line s.column) result × (length (line_of number word s.line s.column) ≤ line_room) }
+pub fn put_line(w: &mut Writer, number: usize, word: u32, s: Spot)
+    ensures line { Writes w.old (line_of number word s.line s.column) w.new }
+    ensures fits { length (line_of number word s.line s.column) ≤ line_room }
 {
     let f = fields_in(word);
-    let mut end = put_field(out, at, number as u64, b',');
-    end = put_byte(out, end, f.letter);
-    end = put_byte(out, end, b',');
-    end = put_field(out, end, f.kind as u64, b',');
-    end = put_field(out, end, f.last as u64, b',');
-    end = put_field(out, end, s.line as u64, b',');
-    put_field(out, end, s.column as u64, b'\n')
+    put_field(w, number as u64, b',');
+    w.put_byte(f.letter);
+    w.put_byte(b',');
+    put_field(w, u64::from(f.kind), b',');
+    put_field(w, u64::from(f.last), b',');
+    put_field(w, u64::from(s.line), b',');
+    put_field(w, u64::from(s.column), b'\n');
 }
 
 // Writes the one line of a refusal.
-fn put_refusal(out: &mut [u8], number: u32, place: usize) -> usize
-    ensures { Writes out 0 (refusal_line number place) result × (length (refusal_line number place) ≤ line_room) }
+fn put_refusal(w: &mut Writer, number: u32, place: usize)
+    ensures line { Writes w.old (refusal_line number place) w.new }
+    ensures fits { length (refusal_line number place) ≤ line_room }
 {
-    let name = REFUSED;
-    let mut end = put_text(out, 0, &name);
-    end = put_field(out, end, number as u64, b',');
-    put_field(out, end, place as u64, b'\n')
+    w.put_text(b"refused,");
+    put_field(w, u64::from(number), b',');
+    put_field(w, place as u64, b'\n');
 }
 
 // Writes the first line: the header, or the one line of a refusal.
-pub fn put_first(out: &mut [u8], a: Answer) -> usize
-    ensures { Writes out 0 (first_line a) result × (length (first_line a) ≤ line_room) }
+pub fn put_first(w: &mut Writer, a: Answer)
+    ensures line { Writes w.old (first_line a) w.new }
+    ensures fits { length (first_line a) ≤ line_room }
 {
     if a.number == 0 {
-        let text = HEADER;
-        return put_text(out, 0, &text);
+        w.put_text(b"event,class,kind,last,line,column\n");
+    } else {
+        put_refusal(w, a.number, a.place);
     }
-    put_refusal(out, a.number, a.place)
 }

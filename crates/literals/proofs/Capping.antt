@@ -3,22 +3,24 @@ use Prim.Native.Nat.{ℕ, zero, suc, ◌+◌, ◌-◌, ◌*◌, ◌≤◌, ◌<�
 use native.Mathlib.Omega.{arith}
 use native.Mathlib.Nat.{le-mul_of_pos_right}
 use mathlib.Core.Path.{◌≡◌, refl, sym, ap, ◌∙◌}
-use mathlib.Core.Bool.{Bool, true, false, ◌&&◌, ◌||◌, cond}
+use mathlib.Core.Bool.{Bool, true, false, ◌&&◌, cond}
 use mathlib.Core.List.{List, [], ◌∷◌}
 use mathlib.Core.Option.{none, some}
-use lib.ListN.{length, take, drop}
-use lib.Seq.{drop-drop}
+use lib.ListN.{length, get_or, drop, drop_of_length-le}
+use lib.Seq.{drop-cons}
+use native.Mathlib.Numerals.{add-one}
+use Rattle.std.specs.Char.{digit_value}
+use Rattle.std.proofs.lemmas.Bool.Decides.{nat_tests}
 use lib.Dec.{leb, ltb, eqb}
-use borrow.Author.Tests.{leb-true, leb-false, le-leb, lt-leb, lt-ltb, le-ltb, ltb-true, ltb-false, ne_eqb}
-use Rattle.predictive.proofs.Tests.{never}
+use borrow.Author.Tests.{leb-true, leb-false, lt-ltb, le-ltb, ltb-true, ltb-false, ne_eqb}
 use Rattle.aadl.specs.Bytes.{peek, is_digit}
 use Rattle.aadl.specs.NumberParts.{AllOf}
 use Rattle.aadl.specs.Values.{digit_of, digits, number_by, all_below, in_base, part}
 use Rattle.aadl.proofs.Bools.{bounds}
 use Rattle.int64.specs.Integers.{most}
-use Rattle.lexer.proofs.FirstWords.{from_more, from_end}
-use Rattle.literals.specs.declared.Digits.{Digits}
-use Rattle.literals.specs.Capped.{DigitsOf, LiteralOf, is_none, is_some}
+use Rattle.literals.proofs.Parts.{from_more, from_end}
+use Rattle.std.specs.Prelude.{Option as Told, Some, None, unwrap_or}
+use Rattle.literals.specs.Capped.{capped}
 
 -- THE CAP --------------------------------------------------------------------------------------------------------------
 
@@ -38,60 +40,72 @@ cut base n ds h = by (leb n most) refl
         ap (λ (k : ℕ). min (number_by base k ds) most) q
     by false e = omega (arith, leb-false n most e, grows base n ds h, grows base (min n most) ds h)
 
--- WHAT REMAINS ---------------------------------------------------------------------------------------------------------
+-- DIGIT BY DIGIT -------------------------------------------------------------------------------------------------------
 
--- The digits ds, of which the first are read and es remain: n is the number of those, cut; any whether there are some.
-pub record Remain (base : ℕ) (ds es : List ℕ) (any : Bool) (n : ℕ) : Type 0 where
-  pub some-digit : (any || ltb 0 (length es)) ≡ ltb 0 (length ds)
-  pub all : all_below base es ≡ all_below base ds
-  pub number : min (number_by base n es) most ≡ min (number_by base 0 ds) most
-  pub cut_off : n ≤ most
+-- What the digits that remain make of the number so far.
+abbrev pub goes_on : (base : ℕ) → Told ℕ → List ℕ → Told ℕ
+goes_on base o [] = o
+goes_on base o (d ∷ ds) = cond (ltb d base) (goes_on base (Some (min (unwrap_or o 0 * base + d) most)) ds) None
 
-pub remain_all : (base : ℕ) (ds : List ℕ) → Remain base ds ds false 0
-remain_all base ds = record { some-digit = refl; all = refl; number = refl; cut_off = omega arith }
+from_some : (base n : ℕ) (ds : List ℕ) → 1 ≤ base → n ≤ most → goes_on base (Some n) ds ≡ cond (all_below base ds) (Some (min (number_by base n ds) most)) None
+unfolding number_by all_below
+from_some base n [] h l = let q : n ≡ min n most = omega (arith, l) in ap Some q
+from_some base n (d ∷ ds) h l = by (ltb d base) (from_some base (min (n * base + d) most) ds h (omega arith))
+  where
+    m : ℕ
+    m = n * base + d
 
-or_some : (t b : Bool) → b ≡ true → (t || b) ≡ true
-or_some true b e = refl
-or_some false b e = e
+    by : (t : Bool) → goes_on base (Some (min m most)) ds ≡ cond (all_below base ds) (Some (min (number_by base (min m most) ds) most)) None →
+        cond t (goes_on base (Some (min m most)) ds) None ≡ cond (t && all_below base ds) (Some (min (number_by base m ds) most)) None
+    by true e = e ∙ ap (λ (k : ℕ). cond (all_below base ds) (Some k) None) (cut base m ds h)
+    by false e = refl
 
-or_none : (t : Bool) → (t || false) ≡ t
-or_none true = refl
-or_none false = refl
+pub from_none : (base : ℕ) (ds : List ℕ) → 1 ≤ base → goes_on base None ds ≡ capped (in_base base ds)
+from_none base [] h = refl
+from_none base (d ∷ ds) h =
+    from_first ∙ from_some base 0 (d ∷ ds) h (omega arith) ∙ kept (all_below base (d ∷ ds))
+  where
+    from_first : goes_on base None (d ∷ ds) ≡ goes_on base (Some 0) (d ∷ ds)
+    from_first = refl
 
-module _ (base : ℕ) (ds : List ℕ) (any : Bool) (n : ℕ) where
-  there-is_one : (d : ℕ) (es : List ℕ) → Remain base ds (d ∷ es) any n → true ≡ ltb 0 (length ds)
-  there-is_one d es r = sym (or_some any (ltb 0 (length (d ∷ es))) (lt-ltb 0 (length (d ∷ es)) (omega arith))) ∙ r.some-digit
+    kept : (t : Bool) → cond t (Some (min (number_by base 0 (d ∷ ds)) most)) None ≡ capped (cond (ltb 0 (length (d ∷ ds)) && t) (some (number_by base 0 (d ∷ ds))) none)
+    kept true = rw (lt-ltb 0 (length (d ∷ ds)) (omega arith)) refl
+    kept false = rw (lt-ltb 0 (length (d ∷ ds)) (omega arith)) refl
 
-  -- one digit more, below the base
-  pub remain_one : (d m : ℕ) (es : List ℕ) → 1 ≤ base → d < base → m ≡ min (n * base + d) most → Remain base ds (d ∷ es) any n → Remain base ds es true m
-  unfolding number_by all_below
-  remain_one d m es h l e r =
-      record {
-        some-digit = there-is_one d es r;
-        all = sym (ap (λ (t : Bool). t && all_below base es) (lt-ltb d base l)) ∙ r.all;
-        number = ap (λ (k : ℕ). min (number_by base k es) most) e ∙ cut base (n * base + d) es h ∙ r.number;
-        cut_off = omega (arith, e);
-      }
+-- A digit below a base up to 16 is the one that the library reads.
+digit-value : (b : ℕ) → digit_of b ≡ min (digit_value b) 16
+digit-value b = grind (arith, nat_tests)
 
-  -- one that is not
-  pub remain_not_below : (d : ℕ) (es : List ℕ) → base ≤ d → Remain base ds (d ∷ es) any n → DigitsOf base ds (record { any = true; below = false; size = 0 })
-  unfolding all_below
-  remain_not_below d es h r =
-      record {
-        any = there-is_one d es r;
-        below = sym (ap (λ (t : Bool). t && all_below base es) (le-ltb d base h)) ∙ r.all;
-        size = λ e. never e;
-      }
+module _ (base : ℕ) (part : List ℕ) (i : ℕ) (o : Told ℕ) where
+  abbrev remain : ℕ → List ℕ
+  remain k = digits (drop k part)
 
-  -- none more
-  pub remain_none : Remain base ds [] any n → DigitsOf base ds (record { any = any; below = true; size = n })
-  unfolding number_by all_below
-  remain_none r =
-      record {
-        any = sym (or_none any) ∙ r.some-digit;
-        below = r.all;
-        size = λ e. omega (arith, r.number, r.cut_off);
-      }
+  pub ended : length part ≤ i → goes_on base o (remain i) ≡ o
+  unfolding digits
+  ended h = ap (λ (bs : List ℕ). goes_on base o (digits bs)) (drop_of_length-le part h)
+
+  module _ (h : i < length part) where
+    here : drop i part ≡ get_or part i 0 ∷ drop (i + 1) part
+    here = drop-cons part i 0 h ∙ ap (λ (k : ℕ). get_or part i 0 ∷ drop k part) (sym (add-one i))
+
+    pub passed : eqb (get_or part i 0) 95 ≡ true → goes_on base o (remain i) ≡ goes_on base o (remain (i + 1))
+    unfolding digits
+    passed e = ap (λ (bs : List ℕ). goes_on base o (digits bs)) here ∙ rw e refl
+
+    at_digit : eqb (get_or part i 0) 95 ≡ false → goes_on base o (remain i) ≡ goes_on base o (digit_of (get_or part i 0) ∷ remain (i + 1))
+    unfolding digits
+    at_digit e = ap (λ (bs : List ℕ). goes_on base o (digits bs)) here ∙ rw e refl
+
+    pub longer : (d n : ℕ) → eqb (get_or part i 0) 95 ≡ false → base ≤ 16 → d < base → d ≡ digit_value (get_or part i 0) → n ≡ min (unwrap_or o 0 * base + d) most →
+        goes_on base o (remain i) ≡ goes_on base (Some n) (remain (i + 1))
+    longer d n e l h q r =
+        let same : digit_of (get_or part i 0) ≡ d = omega (arith, digit-value (get_or part i 0)) in
+        at_digit e ∙ rw (same, lt-ltb d base h) (ap (λ (k : ℕ). goes_on base (Some k) (remain (i + 1))) (sym r))
+
+    pub broken : eqb (get_or part i 0) 95 ≡ false → base ≤ 16 → base ≤ digit_value (get_or part i 0) → goes_on base o (remain i) ≡ None
+    broken e l h =
+        let no_less : base ≤ digit_of (get_or part i 0) = omega (arith, digit-value (get_or part i 0)) in
+        at_digit e ∙ rw (le-ltb (digit_of (get_or part i 0)) base no_less) refl
 
 -- Bytes one by one: an underscore is no digit.
 module _ (s : List ℕ) (i to : ℕ) (h : i < to) (l : i < length s) where
@@ -99,33 +113,9 @@ module _ (s : List ℕ) (i to : ℕ) (h : i < to) (l : i < length s) where
   unfolding digits
   digits_more e = ap digits (from_more i to s h l) ∙ rw e refl
 
-  pub digits-skip : eqb (peek s i) 95 ≡ true → digits (part i to s) ≡ digits (part (i + 1) to s)
-  unfolding digits
-  digits-skip e = ap digits (from_more i to s h l) ∙ rw e refl
-
 pub digits_end : (s : List ℕ) (i to : ℕ) → to ≤ i → digits (part i to s) ≡ []
 unfolding digits
 digits_end s i to h = ap digits (from_end i to s h)
-
--- OF A LITERAL ---------------------------------------------------------------------------------------------------------
-
--- digits that were read, as a literal
-pub literal-told : (base : ℕ) (ds : List ℕ) (r : Digits) → DigitsOf base ds r → LiteralOf (in_base base ds) (record { good = r.any && r.below; size = r.size })
-literal-told base ds r x = by (ltb 0 (length ds)) (all_below base ds) refl refl
-  where
-    both : {t u : Bool} → ltb 0 (length ds) ≡ t → all_below base ds ≡ u → (r.any && r.below) ≡ (t && u)
-    both e f = λ i. (x.any ∙ e) i && (x.below ∙ f) i
-
-    by : (t u : Bool) → ltb 0 (length ds) ≡ t → all_below base ds ≡ u → LiteralOf (cond (t && u) (some (number_by base 0 ds)) none) (record { good = r.any && r.below; size = r.size })
-    by true true e f = is_some (both e f) (x.size (x.below ∙ f))
-    by true false e f = is_none (both e f)
-    by false u e f = is_none (both e f)
-
--- The digits of a part from a place on are those of the part of all.
-pub part-from : (s : List ℕ) (at i e : ℕ) → part (at + i) (at + e) s ≡ part i e (drop at s)
-part-from s at i e =
-    let q : at + e - (at + i) ≡ e - i = omega arith in
-    rw q (ap (take (e - i)) (sym (drop-drop i at s)))
 
 -- Bytes that are digits are below ten.
 decimal-below : (b : ℕ) → is_digit b ≡ true → (digit_of b < 10) × (eqb b 95 ≡ false)
@@ -147,19 +137,3 @@ decimals_below (suc k) bs i e h l a = by (ltb i e) refl (decimals_below k bs (i 
         ap (all_below 10) (digits_more bs i e here (omega (arith, here, l)) d.1)
         ∙ ap (λ (t : Bool). t && all_below 10 (digits (part (i + 1) e bs))) (lt-ltb (digit_of (peek bs i)) 10 d.0)
         ∙ r
-
--- A number that is cut at the cap is between two small ones exactly if it is between them whole, and then it is not cut.
-pub cut-between : (n k : ℕ) → k ≡ min n most → (leb 2 k && leb k 16) ≡ (leb 2 n && leb n 16)
-cut-between n k e = by (leb n most) refl
-  where
-    by : (t : Bool) → leb n most ≡ t → (leb 2 k && leb k 16) ≡ (leb 2 n && leb n 16)
-    by true f =
-        let q : k ≡ n = omega (arith, e, leb-true n most f) in
-        ap (λ (m : ℕ). leb 2 m && leb m 16) q
-    by false f =
-        let h = leb-false n most f in
-        let far : k ≡ most = omega (arith, e, h) in
-        ap (λ (m : ℕ). leb 2 m && leb m 16) far ∙ sym (λ i. le-leb 2 n (omega (arith, h)) i && lt-leb n 16 (omega (arith, h)) i)
-
-pub not_cut : (n k : ℕ) → k ≡ min n most → (leb 2 k && leb k 16) ≡ true → k ≡ n
-not_cut n k e t = omega (arith, e, (bounds 2 16 k t).1)

@@ -7,10 +7,10 @@ ghost use Rattle.predictive.specs.Notation.{maybe};
 ghost use Rattle.predictive.specs.Reader.{ones};
 ghost use Rattle.aadl.specs.Kinds as K;
 ghost use Rattle.aadl.specs.Section as G;
-ghost use Rattle.parser.specs.Reads.{ReadsPart, ReadsNode};
+ghost use Rattle.parser.specs.Parsers.{ReadsPart, ReadsNode};
 
 use categories::at_ident_or_kw;
-use parser::{Completed, Parser, at, bump, bump_any, complete, eat, error, expect, start};
+use parser::{CompletedMarker, Parser};
 use syntax_kind::{
     BOOLEAN_VALUE, COLON_COLON, COMPUTE_KW, COMPUTED_VALUE, CONTAINMENT_PATH, DOT, DOT_DOT, ERROR,
     IDENT, INTEGER_LIT, INTEGER_VALUE, L_BRACKET, L_PAREN, PROPERTY_EXPRESSION, R_BRACKET, R_PAREN,
@@ -20,165 +20,158 @@ use syntax_kind::{
 // PATHS
 
 // `..` and an integer, which may be missing, if `..` stands.
-fn index_end(text: &[u8], toks: &[u32], events: &mut [u32], p: Parser) -> Parser
-    ensures { ReadsPart text toks events (maybe G.index_end) p result }
+fn index_end(p: &mut Parser<'_>)
+    ensures { ReadsPart (maybe G.index_end) p.old p.new }
 {
-    if at(text, toks, p, DOT_DOT) {
-        let p = bump(text, toks, events, p, DOT_DOT);
-        return eat(text, toks, events, p, INTEGER_LIT);
+    if p.at(DOT_DOT) {
+        p.bump(DOT_DOT);
+        p.eat(INTEGER_LIT);
     }
-    p
 }
 
 // An integer, a range of integers, a name, or nothing.
-fn index(text: &[u8], toks: &[u32], events: &mut [u32], p: Parser) -> Parser
-    ensures { ReadsPart text toks events (maybe G.index) p result }
+fn index(p: &mut Parser<'_>)
+    ensures { ReadsPart (maybe G.index) p.old p.new }
 {
-    if at(text, toks, p, INTEGER_LIT) {
-        let p = bump(text, toks, events, p, INTEGER_LIT);
-        return index_end(text, toks, events, p);
+    if p.at(INTEGER_LIT) {
+        p.bump(INTEGER_LIT);
+        index_end(p);
+    } else {
+        p.eat(IDENT);
     }
-    eat(text, toks, events, p, IDENT)
 }
 
-fn array_subscripts(text: &[u8], toks: &[u32], events: &mut [u32], p: Parser) -> Parser
-    ensures { ReadsPart text toks events (many G.subscript) p result }
+fn array_subscripts(p: &mut Parser<'_>)
+    ensures { ReadsPart (many G.subscript) p.old p.new }
 {
-    let mut q = p;
-    while at(text, toks, q, L_BRACKET) {
-        q = bump(text, toks, events, q, L_BRACKET);
-        q = index(text, toks, events, q);
-        q = expect(text, toks, events, q, R_BRACKET);
+    while p.at(L_BRACKET) {
+        p.bump(L_BRACKET);
+        index(p);
+        p.expect(R_BRACKET);
     }
-    q
 }
 
-fn segment(text: &[u8], toks: &[u32], events: &mut [u32], p: Parser) -> Parser
-    ensures { ReadsPart text toks events (maybe G.segment) p result }
+fn segment(p: &mut Parser<'_>)
+    ensures { ReadsPart (maybe G.segment) p.old p.new }
 {
-    if at(text, toks, p, IDENT) {
-        let p = bump(text, toks, events, p, IDENT);
-        return array_subscripts(text, toks, events, p);
+    if p.at(IDENT) {
+        p.bump(IDENT);
+        array_subscripts(p);
     }
-    p
 }
 
 // The segments of a path, if a name stands.
-fn segments(text: &[u8], toks: &[u32], events: &mut [u32], p: Parser) -> Parser
-    ensures { ReadsPart text toks events (maybe G.segments) p result }
+fn segments(p: &mut Parser<'_>)
+    ensures { ReadsPart (maybe G.segments) p.old p.new }
 {
-    let mut q = p;
-    if at(text, toks, q, IDENT) {
+    if p.at(IDENT) {
         loop {
-            q = segment(text, toks, events, q);
-            if !at(text, toks, q, DOT) {
-                return q;
+            segment(p);
+            if !p.at(DOT) {
+                return;
             }
-            q = bump(text, toks, events, q, DOT);
+            p.bump(DOT);
         }
     }
-    q
 }
 
 // A path, which may have no segment: `sub1.sub2[1].feature`.
-pub fn containment_path(text: &[u8], toks: &[u32], events: &mut [u32], p: Parser) -> Parser
-    ensures { ReadsPart text toks events G.path p result }
+pub fn containment_path(p: &mut Parser<'_>)
+    ensures { ReadsPart G.path p.old p.new }
 {
-    let s = start(events, p);
-    let p = segments(text, toks, events, s.p);
-    let c = complete(events, p, s.m, CONTAINMENT_PATH);
-    c.p
+    let m = p.start();
+    segments(p);
+    m.complete(p, CONTAINMENT_PATH);
 }
 
 // VALUES
 
 // An integer and its unit, if it has one.
-pub fn integer_value(text: &[u8], toks: &[u32], events: &mut [u32], p: Parser) -> Completed
-    ensures { ReadsNode text toks events G.integer_value p result }
+pub fn integer_value(p: &mut Parser<'_>) -> CompletedMarker
+    ensures { ReadsNode G.integer_value p.old result p.new }
 {
-    let s = start(events, p);
-    let q = bump(text, toks, events, s.p, INTEGER_LIT);
-    let q = eat(text, toks, events, q, IDENT);
-    complete(events, q, s.m, INTEGER_VALUE)
+    let m = p.start();
+    p.bump(INTEGER_LIT);
+    p.eat(IDENT);
+    m.complete(p, INTEGER_VALUE)
 }
 
-pub fn real_value(text: &[u8], toks: &[u32], events: &mut [u32], p: Parser) -> Completed
-    ensures { ReadsNode text toks events G.real_value p result }
+pub fn real_value(p: &mut Parser<'_>) -> CompletedMarker
+    ensures { ReadsNode G.real_value p.old result p.new }
 {
-    let s = start(events, p);
-    let p = bump(text, toks, events, s.p, REAL_LIT);
-    let p = eat(text, toks, events, p, IDENT);
-    complete(events, p, s.m, REAL_VALUE)
+    let m = p.start();
+    p.bump(REAL_LIT);
+    p.eat(IDENT);
+    m.complete(p, REAL_VALUE)
 }
 
-pub fn string_value(text: &[u8], toks: &[u32], events: &mut [u32], p: Parser) -> Completed
-    ensures { ReadsNode text toks events G.string_value p result }
+pub fn string_value(p: &mut Parser<'_>) -> CompletedMarker
+    ensures { ReadsNode G.string_value p.old result p.new }
 {
-    let s = start(events, p);
-    let p = bump(text, toks, events, s.p, STRING_LIT);
-    complete(events, p, s.m, STRING_VALUE)
+    let m = p.start();
+    p.bump(STRING_LIT);
+    m.complete(p, STRING_VALUE)
 }
 
 // `true` or `false`.
-pub fn boolean_value(text: &[u8], toks: &[u32], events: &mut [u32], p: Parser) -> Completed
-    ensures { ReadsNode text toks events (G.node K.BOOLEAN_VALUE any) p result }
+pub fn boolean_value(p: &mut Parser<'_>) -> CompletedMarker
+    ensures { ReadsNode (G.node K.BOOLEAN_VALUE any) p.old result p.new }
 {
-    let s = start(events, p);
-    let p = bump_any(text, toks, events, s.p);
-    complete(events, p, s.m, BOOLEAN_VALUE)
+    let m = p.start();
+    p.bump_any();
+    m.complete(p, BOOLEAN_VALUE)
 }
 
-pub fn reference_value(text: &[u8], toks: &[u32], events: &mut [u32], p: Parser) -> Completed
-    ensures { ReadsNode text toks events G.reference_value p result }
+pub fn reference_value(p: &mut Parser<'_>) -> CompletedMarker
+    ensures { ReadsNode G.reference_value p.old result p.new }
 {
-    let s = start(events, p);
-    let p = bump(text, toks, events, s.p, REFERENCE_KW);
-    let p = expect(text, toks, events, p, L_PAREN);
-    let p = containment_path(text, toks, events, p);
-    let p = expect(text, toks, events, p, R_PAREN);
-    complete(events, p, s.m, REFERENCE_VALUE)
+    let m = p.start();
+    p.bump(REFERENCE_KW);
+    p.expect(L_PAREN);
+    containment_path(p);
+    p.expect(R_PAREN);
+    m.complete(p, REFERENCE_VALUE)
 }
 
-pub fn computed_value(text: &[u8], toks: &[u32], events: &mut [u32], p: Parser) -> Completed
-    ensures { ReadsNode text toks events G.computed_value p result }
+pub fn computed_value(p: &mut Parser<'_>) -> CompletedMarker
+    ensures { ReadsNode G.computed_value p.old result p.new }
 {
-    let s = start(events, p);
-    let p = bump(text, toks, events, s.p, COMPUTE_KW);
-    let p = expect(text, toks, events, p, L_PAREN);
-    let p = eat(text, toks, events, p, IDENT);
-    let p = expect(text, toks, events, p, R_PAREN);
-    complete(events, p, s.m, COMPUTED_VALUE)
+    let m = p.start();
+    p.bump(COMPUTE_KW);
+    p.expect(L_PAREN);
+    p.eat(IDENT);
+    p.expect(R_PAREN);
+    m.complete(p, COMPUTED_VALUE)
 }
 
 // A name right after an operand's `::`, which may be missing.
-fn name_after(text: &[u8], toks: &[u32], events: &mut [u32], p: Parser) -> Parser
-    ensures { ReadsPart text toks events (opt (unless (ones G.names)) G.name) p result }
+fn name_after(p: &mut Parser<'_>)
+    ensures { ReadsPart (opt (unless (ones G.names)) G.name) p.old p.new }
 {
-    if at_ident_or_kw(text, toks, p) {
-        return bump_any(text, toks, events, p);
+    if at_ident_or_kw(p) {
+        p.bump_any();
     }
-    p
 }
 
 // A named value, an enumeration literal or a property constant.
-pub fn named_value(text: &[u8], toks: &[u32], events: &mut [u32], p: Parser) -> Completed
-    ensures { ReadsNode text toks events G.named_value p result }
+pub fn named_value(p: &mut Parser<'_>) -> CompletedMarker
+    ensures { ReadsNode G.named_value p.old result p.new }
 {
-    let s = start(events, p);
-    let mut q = bump(text, toks, events, s.p, IDENT);
-    while at(text, toks, q, COLON_COLON) {
-        q = bump(text, toks, events, q, COLON_COLON);
-        q = name_after(text, toks, events, q);
+    let m = p.start();
+    p.bump(IDENT);
+    while p.at(COLON_COLON) {
+        p.bump(COLON_COLON);
+        name_after(p);
     }
-    complete(events, q, s.m, PROPERTY_EXPRESSION)
+    m.complete(p, PROPERTY_EXPRESSION)
 }
 
 // A C-style literal, which is not valid AADL.
-pub fn c_style_value(text: &[u8], toks: &[u32], events: &mut [u32], p: Parser) -> Completed
-    ensures { ReadsNode text toks events (G.node K.ERROR (seq (fail 4) any)) p result }
+pub fn c_style_value(p: &mut Parser<'_>) -> CompletedMarker
+    ensures { ReadsNode (G.node K.ERROR (seq (fail 4) any)) p.old result p.new }
 {
-    let s = start(events, p);
-    let p = error(events, s.p, 4);
-    let p = bump_any(text, toks, events, p);
-    complete(events, p, s.m, ERROR)
+    let m = p.start();
+    p.error(4);
+    p.bump_any();
+    m.complete(p, ERROR)
 }

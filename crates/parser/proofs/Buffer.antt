@@ -13,7 +13,7 @@ use borrow.Author.Tests.{lt-ltb, le-ltb, ltb-true, ltb-false}
 use Rattle.predictive.specs.Events.{Event, start}
 use Rattle.aadl.specs.Limits.{most_events}
 use Rattle.aadl.specs.Encoding.{event_word, words_for, cut_to_word}
-use Rattle.parser.specs.declared.Parser.{Parser}
+use Rattle.parser.specs.Counters.{Counters}
 use Rattle.parser.specs.Buffer.{room, put, named, linked}
 use Rattle.parser.specs.State.{with_left}
 
@@ -45,7 +45,7 @@ first-stands m n e f = ltb-true (words_for m) n (sym e ∙ f)
 -- WORDS ----------------------------------------------------------------------------------------------------------------
 
 -- What the code stores: the word of the event and that of its token, of the Start of a kind, or with a forward parent; past the words nothing.
-pub put-words : (p : Parser) (e : Event) (w v : ℕ) (b : List ℕ) → w ≡ event_word e → v ≡ cut_to_word p.at →
+pub put-words : (p : Counters) (e : Event) (w v : ℕ) (b : List ℕ) → w ≡ event_word e → v ≡ cut_to_word p.at →
     set (set b (words_for p.used) w) (words_for p.used + 1) v ≡ put p e b
 unfolding put
 put-words p e w v b h g = ap₂ (λ (x y : ℕ). set (set b (words_for p.used) x) (words_for p.used + 1) y) h g
@@ -66,14 +66,14 @@ pub linked-out : (m n : ℕ) (b : List ℕ) → length b ≤ words_for m → b �
 unfolding linked
 linked-out m n b h = sym (set_out b (words_for m) (get_or b (words_for m) 0 / 65536 * 65536 + n) h)
 
-pub put-long : (p : Parser) (e : Event) (b : List ℕ) → length (put p e b) ≡ length b
+pub put-long : (p : Counters) (e : Event) (b : List ℕ) → length (put p e b) ≡ length b
 unfolding put
 put-long p e b =
     length-set (set b (words_for p.used) (event_word e)) (words_for p.used + 1) (cut_to_word p.at)
     ∙ length-set b (words_for p.used) (event_word e)
 
 -- the openers left do not matter
-pub put-raised : (l : ℕ) (p : Parser) (e : Event) (b : List ℕ) → put (with_left l p) e b ≡ put p e b
+pub put-raised : (l : ℕ) (p : Counters) (e : Event) (b : List ℕ) → put (with_left l p) e b ≡ put p e b
 unfolding put
 put-raised l p e b = refl
 
@@ -87,7 +87,7 @@ apart-second : (m n : ℕ) → words_for n + 1 ≡ words_for m → ⊥
 apart-second m n q = omega (arith, q)
 
 -- A first word may be stored before or after an event's two words.
-put-over : (p : Parser) (e : Event) (m w : ℕ) (b : List ℕ) → m < p.used → put p e (set b (words_for m) w) ≡ set (put p e b) (words_for m) w
+put-over : (p : Counters) (e : Event) (m w : ℕ) (b : List ℕ) → m < p.used → put p e (set b (words_for m) w) ≡ set (put p e b) (words_for m) w
 unfolding put
 put-over p e m w b h =
     let i = words_for p.used in
@@ -95,7 +95,7 @@ put-over p e m w b h =
     ∙ sym (set_comm (set b i (event_word e)) (i + 1) (words_for m) (cut_to_word p.at) w (apart-second m p.used))
 
 -- .. and is not one of them
-put-elsewhere : (p : Parser) (e : Event) (m : ℕ) (b : List ℕ) → m < p.used → get_or (put p e b) (words_for m) 0 ≡ get_or b (words_for m) 0
+put-elsewhere : (p : Counters) (e : Event) (m : ℕ) (b : List ℕ) → m < p.used → get_or (put p e b) (words_for m) 0 ≡ get_or b (words_for m) 0
 unfolding put
 put-elsewhere p e m b h =
     let i = words_for p.used in
@@ -105,7 +105,7 @@ put-elsewhere p e m b h =
 -- A change of the words that no event sees which is written behind event number m.
 pub record Below (m : ℕ) (f : List ℕ → List ℕ) : Type 0 where
   pub long : (b : List ℕ) → length (f b) ≡ length b
-  pub over : (p : Parser) (e : Event) (b : List ℕ) → m < p.used → put p e (f b) ≡ f (put p e b)
+  pub over : (p : Counters) (e : Event) (b : List ℕ) → m < p.used → put p e (f b) ≡ f (put p e b)
 
 pub named-below : (m k : ℕ) → Below m (named m k)
 unfolding named
@@ -122,18 +122,18 @@ linked-below m n =
     }
 
 -- The first word of the event that was just put, stored anew: the second word stays.
-put-again : (p : Parser) (d e : Event) (b : List ℕ) → set (put p d b) (words_for p.used) (event_word e) ≡ put p e b
+put-again : (p : Counters) (d e : Event) (b : List ℕ) → set (put p d b) (words_for p.used) (event_word e) ≡ put p e b
 unfolding put
 put-again p d e b =
     let i = words_for p.used in
     set_comm (set b i (event_word d)) (i + 1) i (cut_to_word p.at) (event_word e) (apart-second p.used p.used)
     ∙ ap (λ (c : List ℕ). set c (i + 1) (cut_to_word p.at)) (set-set b i (event_word d) (event_word e))
 
-pub named-own : (p : Parser) (j up k : ℕ) (b : List ℕ) → named p.used k (put p (start j up) b) ≡ put p (start k 0) b
+pub named-own : (p : Counters) (j up k : ℕ) (b : List ℕ) → named p.used k (put p (start j up) b) ≡ put p (start k 0) b
 unfolding named
 named-own p j up k b = put-again p (start j up) (start k 0) b
 
-pub linked-own : (p : Parser) (k n : ℕ) (b : List ℕ) → p.used < room b → linked p.used n (put p (start k 0) b) ≡ put p (start k n) b
+pub linked-own : (p : Counters) (k n : ℕ) (b : List ℕ) → p.used < room b → linked p.used n (put p (start k 0) b) ≡ put p (start k n) b
 unfolding linked put room
 linked-own p k n b h =
     let i = words_for p.used in

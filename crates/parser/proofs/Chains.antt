@@ -1,5 +1,6 @@
 -- Left-leaning chains. A chain's invariant carries the forest read so far, which is one node, and where its own Start stands. Assumes
 -- nothing.
+use Rattle.std.specs.Prelude.{Some, None}
 use Prim.Native.Nat.{ℕ, zero, suc, ◌+◌, ◌-◌, ◌≤◌, ◌<◌}
 use native.Mathlib.Omega.{arith}
 use mathlib.Core.Path.{◌≡◌, refl, sym, ap, subst, ◌∙◌}
@@ -18,10 +19,7 @@ use Rattle.predictive.proofs.Readings.{reading-whole}
 use Rattle.predictive.proofs.EventLaws.{length_events}
 use Rattle.predictive.proofs.Takes.{wrapped, takes}
 use Rattle.aadl.specs.Section.{Rule, grammar}
-use Rattle.parser.specs.declared.Parser.{Parser}
-use Rattle.parser.specs.declared.Started.{Started}
-use Rattle.parser.specs.declared.Completed.{Completed}
-use Rattle.parser.specs.declared.Lhs.TheVariants.{Node, Nothing}
+use Rattle.parser.specs.Counters.{Counters, Started, Completed}
 use Rattle.parser.specs.declared.CompletedMarker.{CompletedMarker}
 use Rattle.parser.specs.Input.{Input, rest}
 use Rattle.parser.specs.State.{precede}
@@ -60,7 +58,7 @@ module _ (n d k : ℕ) (Q : Part Rule) where
   leaned m f ys = lean (λ zs. read grammar n d Q zs) (heads_of Q) k m f ys
 
   -- a reader that stopped in a chain
-  stopped-lean : {inp : Input} {p₀ : Parser} {b₀ : List ℕ} {p : Parser} {b : List ℕ} (m : ℕ) (f : Forest) (ys : List ℕ) → Whole f →
+  stopped-lean : {inp : Input} {p₀ : Counters} {b₀ : List ℕ} {p : Counters} {b : List ℕ} (m : ℕ) (f : Forest) (ys : List ℕ) → Whole f →
       Became inp (done f ys) p₀ b₀ p b → (p.stop ≡ 0 → ⊥) → Became inp (leaned m f ys) p₀ b₀ p b
   stopped-lean {inp} {p₀} {b₀} {p} {b} m f ys w x h = by (lean-begins (λ zs. read grammar n d Q zs) (heads_of Q) k m f ys)
     where
@@ -68,7 +66,7 @@ module _ (n d k : ℕ) (Q : Part Rule) where
       by (begins up ds e) = stopped-within f ys up ds w x h e
 
 -- Where a chain stands that goes on: the forest so far, its own Start, and that the rest of the chain makes the whole of it.
-record Linked (inp : Input) (n d k : ℕ) (P Q : Part Rule) (p₀ : Parser) (b₀ : List ℕ) (p : Parser) (b : List ℕ) (m : ℕ) : Type 0 where
+record Linked (inp : Input) (n d k : ℕ) (P Q : Part Rule) (p₀ : Counters) (b₀ : List ℕ) (p : Counters) (b : List ℕ) (m : ℕ) : Type 0 where
   forest : Forest
   left-of : List ℕ
   one : Whole forest
@@ -78,7 +76,7 @@ record Linked (inp : Input) (n d k : ℕ) (P Q : Part Rule) (p₀ : Parser) (b�
   enough : length (rest inp p) < allowed
   whole : reading_at inp n d (leaning k P Q) p₀ ≡ leaned n d k Q allowed forest left-of
 
-pub record Chaining (inp : Input) (d k : ℕ) (P Q : Part Rule) (p₀ : Parser) (b₀ : List ℕ) (p : Parser) (b : List ℕ) (m : ℕ) : Type 0 where
+pub record Chaining (inp : Input) (d k : ℕ) (P Q : Part Rule) (p₀ : Counters) (b₀ : List ℕ) (p : Counters) (b : List ℕ) (m : ℕ) : Type 0 where
   on : (n : ℕ) → length (rest inp p₀) < n → p.stop ≡ 0 → Linked inp n d k P Q p₀ b₀ p b m
   off : (n : ℕ) → length (rest inp p₀) < n → (p.stop ≡ 0 → ⊥) → Became inp (reading_at inp n d (leaning k P Q) p₀) p₀ b₀ p b
   no_more : length (rest inp p) ≤ length (rest inp p₀)
@@ -86,7 +84,7 @@ pub record Chaining (inp : Input) (d k : ℕ) (P Q : Part Rule) (p₀ : Parser) 
   pub long : length b ≡ length b₀
 
 -- what a chain makes of its first operand, once its reader stopped
-stopped-first : {inp : Input} {d : ℕ} {P : Part Rule} {p₀ : Parser} {b₀ : List ℕ} {p : Parser} {b : List ℕ} (k : ℕ) (Q : Part Rule) → single P ≡ true →
+stopped-first : {inp : Input} {d : ℕ} {P : Part Rule} {p₀ : Counters} {b₀ : List ℕ} {p : Counters} {b : List ℕ} (k : ℕ) (Q : Part Rule) → single P ≡ true →
     Read inp d P p₀ b₀ p b →
     (n : ℕ) → length (rest inp p₀) < n → (p.stop ≡ 0 → ⊥) → Became inp (reading_at inp n d (leaning k P Q) p₀) p₀ b₀ p b
 unfolding read step
@@ -97,14 +95,14 @@ stopped-first {inp} {d} {P} {p₀} {b₀} {p} {b} k Q s x n l h = by (reading_at
     by (miss x ys) w y = y
     by (done f ys) w y = stopped-lean n d k Q n f ys (w f ys refl) y h
 
-module _ {inp : Input} {d k : ℕ} {P Q : Part Rule} {p₀ : Parser} {b₀ : List ℕ} {p : Parser} {b : List ℕ} where
+module _ {inp : Input} {d k : ℕ} {P Q : Part Rule} {p₀ : Counters} {b₀ : List ℕ} {p : Counters} {b : List ℕ} where
   -- No first operand: no chain.
-  pub c-none : single P ≡ true → ReadOperand inp d P p₀ b₀ (record { p = p; lhs = Nothing }) b →
-      ReadOperand inp d (leaning k P Q) p₀ b₀ (record { p = p; lhs = Nothing }) b
+  pub c-none : single P ≡ true → ReadOperand inp d P p₀ b₀ (record { p = p; lhs = None }) b →
+      ReadOperand inp d (leaning k P Q) p₀ b₀ (record { p = p; lhs = None }) b
   unfolding read step marked
   c-none s x = record { reads = record { did = λ n l. go n l (goes-or_stopped p.stop) }; mark = λ n l g h. to_none n (reading_at inp n d P p₀) (nothing-missing p.used _ (x.mark n l g h)) }
     where
-      to_none : (n : ℕ) (o : Result) → Missing o → Nothing ≡ marked p.used (firstly o (λ f ys. leaned n d k Q n f ys))
+      to_none : (n : ℕ) (o : Result) → Missing o → None ≡ marked p.used (firstly o (λ f ys. leaned n d k Q n f ys))
       to_none n (miss f ys) missing = refl
       to_none n (done _ _) h = elim h [ ]
 
@@ -117,7 +115,7 @@ module _ {inp : Input} {d k : ℕ} {P Q : Part Rule} {p₀ : Parser} {b₀ : Lis
           by (done _ _) y h = elim h [ ]
 
   -- The first operand begins a chain.
-  pub c-holds : {m : CompletedMarker} → single P ≡ true → ReadOperand inp d P p₀ b₀ (record { p = p; lhs = Node m }) b → Chaining inp d k P Q p₀ b₀ p b m.0
+  pub c-holds : {m : CompletedMarker} → single P ≡ true → ReadOperand inp d P p₀ b₀ (record { p = p; lhs = Some m }) b → Chaining inp d k P Q p₀ b₀ p b m.0
   unfolding read step
   c-holds {m} s x =
       let y = x.reads.did (suc (length (rest inp p₀))) (omega arith) in
@@ -142,7 +140,7 @@ module _ {inp : Input} {d k : ℕ} {P Q : Part Rule} {p₀ : Parser} {b₀ : Lis
 
   -- The chain ends.
   pub c-done : {m : CompletedMarker} → Chaining inp d k P Q p₀ b₀ p b m.0 → stands inp (heads_of Q) p ≡ false →
-      ReadOperand inp d (leaning k P Q) p₀ b₀ (record { p = p; lhs = Node m }) b
+      ReadOperand inp d (leaning k P Q) p₀ b₀ (record { p = p; lhs = Some m }) b
   unfolding lean marked left_over
   c-done {m} x s = record { reads = record { did = λ n l. go n l (goes-or_stopped p.stop) }; mark = λ n l g h. ends n l h }
     where
@@ -156,17 +154,17 @@ module _ {inp : Input} {d k : ℕ} {P Q : Part Rule} {p₀ : Parser} {b₀ : Lis
           last zero l = let z : ⊥ = omega (arith, l) in absurd z
           last (suc i) l = rw a refl
 
-      ends : (n : ℕ) → length (rest inp p₀) < n → p.stop ≡ 0 → Node m ≡ marked p.used (reading_at inp n d (leaning k P Q) p₀)
+      ends : (n : ℕ) → length (rest inp p₀) < n → p.stop ≡ 0 → Some m ≡ marked p.used (reading_at inp n d (leaning k P Q) p₀)
       ends n l h =
           let y = x.on n l h in
-          ap (λ (i : ℕ). Node (record { 0 = i })) y.own ∙ ap (marked p.used) (sym (over n h y))
+          ap (λ (i : ℕ). Some (record { 0 = i })) y.own ∙ ap (marked p.used) (sym (over n h y))
 
       go : (n : ℕ) → length (rest inp p₀) < n → (p.stop ≡ 0) ⊎ (p.stop ≡ 0 → ⊥) → Became inp (reading_at inp n d (leaning k P Q) p₀) p₀ b₀ p b
       go n l (inl h) = let y = x.on n l h in subst (λ (o : Result). Became inp o p₀ b₀ p b) (sym (over n h y)) y.so_far
       go n l (inr h) = x.off n l h
 
 -- One more turn takes a token.
-turn-takes : {inp : Input} {d k : ℕ} {Q : Part Rule} {p : Parser} {b : List ℕ} {s : Started} {c : List ℕ} {q : Parser} {e : List ℕ} {r : Completed} {g : List ℕ} (m : ℕ) → takes Q ≡ true →
+turn-takes : {inp : Input} {d k : ℕ} {Q : Part Rule} {p : Counters} {b : List ℕ} {s : Started} {c : List ℕ} {q : Counters} {e : List ℕ} {r : Completed} {g : List ℕ} (m : ℕ) → takes Q ≡ true →
     stands inp (heads_of Q) p ≡ true → Starts p b s c (precede m) → Read inp d Q s.p c q e → Completes s.m k q e r g → r.p.stop ≡ 0 →
     length (rest inp r.p) < length (rest inp p)
 unfolding stands
@@ -182,7 +180,7 @@ turn-takes {inp} {d} {k} {Q} {p} {b} {s} m t a y z u h =
     stands_same e j = rw (eq-eqb s.p.stop 0 j) (ap (at (heads_of Q)) e ∙ stands_at inp (heads_of Q) p a (stands-goes inp (heads_of Q) p a))
 
 -- .. so the measure of the chain's loop falls.
-pub c-less : {inp : Input} {d k : ℕ} {Q : Part Rule} {p : Parser} {b : List ℕ} {s : Started} {c : List ℕ} {q : Parser} {e : List ℕ} {r : Completed} {g : List ℕ} (m : ℕ) → takes Q ≡ true →
+pub c-less : {inp : Input} {d k : ℕ} {Q : Part Rule} {p : Counters} {b : List ℕ} {s : Started} {c : List ℕ} {q : Counters} {e : List ℕ} {r : Completed} {g : List ℕ} (m : ℕ) → takes Q ≡ true →
     stands inp (heads_of Q) p ≡ true → Starts p b s c (precede m) → Read inp d Q s.p c q e → Completes s.m k q e r g → μ inp r.p < μ inp p
 c-less {inp} {d} {k} {Q} {p} {b} {s} {c} {q} {e} {r} {g} m t a y z u = go (goes-or_stopped r.p.stop)
   where
@@ -194,7 +192,7 @@ c-less {inp} {d} {k} {Q} {p} {b} {s} {c} {q} {e} {r} {g} m t a y z u = go (goes-
     go (inr i) = rw (ne_eqb r.p.stop 0 i, eq-eqb p.stop 0 h) (remains inp (heads_of Q) p a)
 
 -- A chain after one more turn: the forest so far is below a new node, beside what the turn has read.
-record Fresh (inp : Input) (n d k : ℕ) (P Q : Part Rule) (p₀ : Parser) (b₀ : List ℕ) (p : Parser) (r : Parser) (g : List ℕ) : Type 0 where
+record Fresh (inp : Input) (n d k : ℕ) (P Q : Part Rule) (p₀ : Counters) (b₀ : List ℕ) (p : Counters) (r : Counters) (g : List ℕ) : Type 0 where
   old : Forest
   new : Forest
   zs : List ℕ
@@ -204,7 +202,7 @@ record Fresh (inp : Input) (n d k : ℕ) (P Q : Part Rule) (p₀ : Parser) (b₀
   more : length (rest inp p) ≤ turns
   whole : reading_at inp n d (leaning k P Q) p₀ ≡ leaned n d k Q turns (wrap k old new nil) zs
 
-module _ {inp : Input} {d k : ℕ} {P Q : Part Rule} {p₀ : Parser} {b₀ : List ℕ} {p : Parser} {b : List ℕ} {s : Started} {c : List ℕ} {q : Parser} {e : List ℕ} {r : Completed} {g : List ℕ} where
+module _ {inp : Input} {d k : ℕ} {P Q : Part Rule} {p₀ : Counters} {b₀ : List ℕ} {p : Counters} {b : List ℕ} {s : Started} {c : List ℕ} {q : Counters} {e : List ℕ} {r : Completed} {g : List ℕ} where
   fresh : (m : ℕ) → stands inp (heads_of Q) p ≡ true → Starts p b s c (precede m) → Read inp d Q s.p c q e → Completes s.m k q e r g → (n : ℕ) →
       length (rest inp p) < n →
       Linked inp n d k P Q p₀ b₀ p b m → Fresh inp n d k P Q p₀ b₀ p r.p g

@@ -10,7 +10,7 @@ use lib.ListN.{length}
 use lib.Dec.{eqb, ltb}
 use Rattle.predictive.specs.Forest.{message, refusal}
 use Rattle.predictive.specs.Events.{Event, start, token, finish, error}
-use Rattle.parser.specs.declared.Parser.{Parser}
+use Rattle.parser.specs.Counters.{Counters}
 use Rattle.parser.specs.Input.{Input}
 use Rattle.parser.specs.Buffer.{room}
 use Rattle.parser.specs.State.{State, state, with_left, with_stop, one_used, going, stopped, appended, push_or_stop, push, halt, pass, passed, enter, emit, rewritten}
@@ -71,27 +71,27 @@ module _ (inp : Input) where
   -- COUNTERS -----------------------------------------------------------------------------------------------------------
 
   -- the counters after an event, where there is room for n
-  abbrev pub counted : ℕ → Parser → Parser
+  abbrev pub counted : ℕ → Counters → Counters
   counted n p = cond (ltb p.used n) (one_used p) (with_stop 5 p)
 
-  abbrev pub moved : Parser → Parser
+  abbrev pub moved : Counters → Counters
   moved p = cond (eqb p.stop 0) (passed inp (state p [])).parser p
 
-  abbrev pub one_on : ℕ → Event → Parser → Parser
+  abbrev pub one_on : ℕ → Event → Counters → Counters
   one_on n (start k up) p = counted n p
   one_on n (token k) p = moved (counted n p)
   one_on n finish p = counted n p
   one_on n (error (message m)) p = counted n p
   one_on n (error (refusal r)) p = with_stop (max 1 r) p
 
-  abbrev pub step-on : ℕ → Event → Parser → Parser
+  abbrev pub step-on : ℕ → Event → Counters → Counters
   step-on n e p = cond (eqb p.stop 0) (one_on n e p) p
 
-  unfoldable pub advance : ℕ → List Event → Parser → Parser
+  unfoldable pub advance : ℕ → List Event → Counters → Counters
   advance n [] p = p
   advance n (e ∷ es) p = advance n es (step-on n e p)
 
-  pub advance-append : (n : ℕ) (es ds : List Event) (p : Parser) → advance n (es ++ ds) p ≡ advance n ds (advance n es p)
+  pub advance-append : (n : ℕ) (es ds : List Event) (p : Counters) → advance n (es ++ ds) p ≡ advance n ds (advance n es p)
   unfolding advance
   advance-append n [] ds p = refl
   advance-append n (e ∷ es) ds p = advance-append n es ds (step-on n e p)
@@ -139,7 +139,7 @@ module _ (inp : Input) where
   emit-advance [] s = refl
   emit-advance (e ∷ es) s =
       emit-advance es (enter inp e s)
-      ∙ ap₂ (λ (n : ℕ) (p : Parser). advance n es p) (enter-room e s) (enter-counts e s)
+      ∙ ap₂ (λ (n : ℕ) (p : Counters). advance n es p) (enter-room e s) (enter-counts e s)
 
   -- ROOM ---------------------------------------------------------------------------------------------------------------
 

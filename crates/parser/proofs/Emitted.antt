@@ -9,9 +9,7 @@ use mathlib.Core.List.{List, [], ◌∷◌, ◌++◌}
 use lib.ListN.{length}
 use lib.Dec.{eqb, ltb}
 use Rattle.predictive.specs.Events.{Event, start, finish}
-use Rattle.parser.specs.declared.Parser.{Parser}
-use Rattle.parser.specs.declared.Started.{Started}
-use Rattle.parser.specs.declared.Completed.{Completed}
+use Rattle.parser.specs.Counters.{Counters, Started, Completed}
 use Rattle.parser.specs.declared.Marker.{Marker}
 use Rattle.parser.specs.Input.{Input, input, rest}
 use Rattle.parser.specs.Buffer.{room, put, named, linked}
@@ -23,7 +21,7 @@ use Rattle.parser.proofs.Marks.{complete-stopped, complete-goes, precede-links}
 use Rattle.parser.proofs.Emit.{emit-append, emit-long, emit-stopped, advance, advance-append, emit-advance, emit-went, rewritten-unseen, raised, raised-unseen, emit-unseen}
 use Rattle.parser.proofs.Counters.{advance-left, one-rest}
 
-abbrev parser-of : State → Parser
+abbrev parser-of : State → Counters
 parser-of s = s.parser
 
 abbrev words_of : State → List ℕ
@@ -34,7 +32,7 @@ stop-of s = s.parser.stop
 
 -- AFTER EVENTS ---------------------------------------------------------------------------------------------------------
 
-module _ {inp : Input} {es : List Event} {p : Parser} {b : List ℕ} {r : Parser} {c : List ℕ} where
+module _ {inp : Input} {es : List Event} {p : Counters} {b : List ℕ} {r : Counters} {c : List ℕ} where
   -- what a step by `emit` leaves
   pub emitted : state r c ≡ emit inp es (state p b) → Emitted inp es p b r c
   emitted e =
@@ -49,18 +47,18 @@ module _ {inp : Input} {es : List Event} {p : Parser} {b : List ℕ} {r : Parser
     emitted-state h = ap₂ state x.parser (x.words h)
 
     goes_on : r.stop ≡ 0 → Goes (emit inp es (state p b))
-    goes_on h = sym (ap (λ (t : Parser). t.stop) x.parser) ∙ h
+    goes_on h = sym (ap (λ (t : Counters). t.stop) x.parser) ∙ h
 
     pub emitted-goes : r.stop ≡ 0 → p.stop ≡ 0
     emitted-goes h = (emit-went inp es (state p b) (goes_on h)).goes
 
     pub emitted-used : r.stop ≡ 0 → r.used ≡ p.used + length es
-    emitted-used h = ap (λ (t : Parser). t.used) x.parser ∙ (emit-went inp es (state p b) (goes_on h)).used
+    emitted-used h = ap (λ (t : Counters). t.used) x.parser ∙ (emit-went inp es (state p b) (goes_on h)).used
 
     pub emitted-advance : r ≡ advance inp (room b) es p
     emitted-advance = x.parser ∙ emit-advance inp es (state p b)
 
-module _ {inp : Input} {es ds : List Event} {p : Parser} {b : List ℕ} {q : Parser} {c : List ℕ} {r : Parser} {d : List ℕ} where
+module _ {inp : Input} {es ds : List Event} {p : Counters} {b : List ℕ} {q : Counters} {c : List ℕ} {r : Counters} {d : List ℕ} where
   -- Events and then others: of the others it matters only that they are ds while the parser goes on.
   pub emitted-append : {fs : List Event} → Emitted inp es p b q c → Emitted inp fs q c r d → (q.stop ≡ 0 → fs ≡ ds) → Emitted inp (es ++ ds) p b r d
   emitted-append {fs} x y e = go (goes-or_stopped q.stop)
@@ -77,12 +75,12 @@ module _ {inp : Input} {es ds : List Event} {p : Parser} {b : List ℕ} {q : Par
           record { parser = y.parser ∙ ap parser-of t; words = λ h. y.words h ∙ ap words_of t; long = y.long ∙ x.long }
       go (inr f) =
           let stays : r ≡ q = y.parser ∙ ap parser-of (emit-stopped inp fs (state q c) f) in
-          let stopped : Stopped s = λ h. f (ap (λ (t : Parser). t.stop) x.parser ∙ h) in
+          let stopped : Stopped s = λ h. f (ap (λ (t : Counters). t.stop) x.parser ∙ h) in
           emitted-stopped (stays ∙ x.parser ∙ sym (ap parser-of (both ∙ emit-stopped inp ds s stopped)))
-          (λ h. f (sym (ap (λ (t : Parser). t.stop) stays) ∙ h)) (y.long ∙ x.long)
+          (λ h. f (sym (ap (λ (t : Counters). t.stop) stays) ∙ h)) (y.long ∙ x.long)
 
 -- Other events, the same while the parser goes on.
-pub emitted-either : {inp : Input} {es ds : List Event} {p : Parser} {b : List ℕ} {r : Parser} {c : List ℕ} → (p.stop ≡ 0 → es ≡ ds) → Emitted inp es p b r c →
+pub emitted-either : {inp : Input} {es ds : List Event} {p : Counters} {b : List ℕ} {r : Counters} {c : List ℕ} → (p.stop ≡ 0 → es ≡ ds) → Emitted inp es p b r c →
     Emitted inp ds p b r c
 unfolding emit
 emitted-either {inp} {p = p} {b = b} e x = emitted-append {inp = inp} {es = []} {p = p} {b = b} (emitted refl) x e
@@ -90,7 +88,7 @@ emitted-either {inp} {p = p} {b = b} e x = emitted-append {inp = inp} {es = []} 
 -- STARTS ---------------------------------------------------------------------------------------------------------------
 
 -- The counters do not see a Start's kind and parent.
-pub advance-start : (inp : Input) (n : ℕ) (ds es : List Event) (j k up vp : ℕ) (p : Parser) →
+pub advance-start : (inp : Input) (n : ℕ) (ds es : List Event) (j k up vp : ℕ) (p : Counters) →
     advance inp n (ds ++ start j up ∷ es) p ≡ advance inp n (ds ++ start k vp ∷ es) p
 unfolding advance
 advance-start inp n ds es j k up vp p =
@@ -98,7 +96,7 @@ advance-start inp n ds es j k up vp p =
 
 -- By f, the Start that was just written at m becomes another.
 abbrev Becomes : (m : ℕ) → (List ℕ → List ℕ) → (one other : Event) → Type 0
-Becomes m f e d = (t : Parser) (a : List ℕ) → t.used ≡ m → t.used < room a → f (put t e a) ≡ put t d a
+Becomes m f e d = (t : Counters) (a : List ℕ) → t.used ≡ m → t.used < room a → f (put t e a) ≡ put t d a
 
 -- A Start among the events is given another kind or parent by a change of its words: as if it had been pushed so.
 module _ (inp : Input) (ds es : List Event) (j k up vp : ℕ) {m : ℕ} {f : List ℕ → List ℕ} (below : Below m f) where
@@ -116,7 +114,7 @@ module _ (inp : Input) (ds es : List Event) (j k up vp : ℕ) {m : ℕ} {f : Lis
       ∙ ap (λ (b : List ℕ). emit inp es (state (one_used t.parser) b)) (own t.parser t.words u w.1)
       ∙ sym (emit-append inp ds (start k vp ∷ es) s ∙ ap (emit inp es) (push-fits (start k vp) t w.0 w.1))
 
-  pub emitted-restart : {p : Parser} {b : List ℕ} {q : Parser} {c : List ℕ} → Emitted inp (ds ++ start j up ∷ es) p b q c → (q.stop ≡ 0 → m ≡ p.used + length ds) →
+  pub emitted-restart : {p : Counters} {b : List ℕ} {q : Counters} {c : List ℕ} → Emitted inp (ds ++ start j up ∷ es) p b q c → (q.stop ≡ 0 → m ≡ p.used + length ds) →
       (q.stop ≡ 0 → Becomes m f (start j up) (start k vp)) → Emitted inp (ds ++ start k vp ∷ es) p b q (f c)
   emitted-restart {p} {b} {q} {c} x e own =
       record {
@@ -126,12 +124,12 @@ module _ (inp : Input) (ds es : List Event) (j k up vp : ℕ) {m : ℕ} {f : Lis
       }
 
 -- It is given a kind, or a parent at the next event.
-pub emitted-named : {inp : Input} (ds es : List Event) (j up k : ℕ) {m : ℕ} {p : Parser} {b : List ℕ} {q : Parser} {c : List ℕ} →
+pub emitted-named : {inp : Input} (ds es : List Event) (j up k : ℕ) {m : ℕ} {p : Counters} {b : List ℕ} {q : Counters} {c : List ℕ} →
     Emitted inp (ds ++ start j up ∷ es) p b q c → (q.stop ≡ 0 → m ≡ p.used + length ds) → Emitted inp (ds ++ start k 0 ∷ es) p b q (named m k c)
 emitted-named {inp} ds es j up k {m} x e =
     emitted-restart inp ds es j k up 0 (named-below m k) x e (λ h t a i l. subst (λ (n : ℕ). named n k (put t (start j up) a) ≡ put t (start k 0) a) i (named-own t j up k a))
 
-pub emitted-linked : {inp : Input} (ds es : List Event) (k up : ℕ) {m n : ℕ} {p : Parser} {b : List ℕ} {q : Parser} {c : List ℕ} →
+pub emitted-linked : {inp : Input} (ds es : List Event) (k up : ℕ) {m n : ℕ} {p : Counters} {b : List ℕ} {q : Counters} {c : List ℕ} →
     Emitted inp (ds ++ start k 0 ∷ es) p b q c → (q.stop ≡ 0 → m ≡ p.used + length ds) → (q.stop ≡ 0 → n ≡ up) → Emitted inp (ds ++ start k up ∷ es) p b q (linked m n c)
 emitted-linked {inp} ds es k up {m} {n} x e f =
     emitted-restart inp ds es k k 0 up (linked-below m n) x e
@@ -139,7 +137,7 @@ emitted-linked {inp} ds es k up {m} {n} x e f =
 
 -- PUSHING, COMPLETING AND PRECEDING ------------------------------------------------------------------------------------
 
-module _ {inp : Input} {p : Parser} {b : List ℕ} where
+module _ {inp : Input} {p : Counters} {b : List ℕ} where
   pub emitted-started : {s : Started} {c : List ℕ} → Starts p b s c (push (start 0 0)) → Emitted inp (start 0 0 ∷ []) p b s.p c
   unfolding emit enter
   emitted-started x = emitted x.ran
@@ -172,7 +170,7 @@ precede-counts m s = go (eqb t.parser.stop 0) (ltb m s.parser.used)
     go true false = (refl, refl)
     go false v = (refl, refl)
 
-pub emitted-preceded : {inp : Input} {p : Parser} {b : List ℕ} {s : Started} {c : List ℕ} (m : ℕ) → (p.stop ≡ 0 → m < p.used) → Starts p b s c (precede m) →
+pub emitted-preceded : {inp : Input} {p : Counters} {b : List ℕ} {s : Started} {c : List ℕ} (m : ℕ) → (p.stop ≡ 0 → m < p.used) → Starts p b s c (precede m) →
     Emitted inp (start 0 0 ∷ []) p (linked m (p.used - m) b) s.p c
 unfolding emit enter
 emitted-preceded {inp} {p} {b} {s} {c} m l x = go (goes-or_stopped t.parser.stop)
@@ -198,12 +196,12 @@ emitted-preceded {inp} {p} {b} {s} {c} m l x = go (goes-or_stopped t.parser.stop
     long = ap (λ (v : State). length v.words) x.ran ∙ (precede-counts m (state p b)).1 ∙ emit-long inp (start 0 0 ∷ []) (state p b) ∙ sym (below.long b)
 
     go : (t.parser.stop ≡ 0) ⊎ (t.parser.stop ≡ 0 → ⊥) → Emitted inp (start 0 0 ∷ []) p (f b) s.p c
-    go (inr h) = emitted-stopped (same ∙ counts) (λ i. h (sym (ap (λ (v : Parser). v.stop) same) ∙ i)) long
+    go (inr h) = emitted-stopped (same ∙ counts) (λ i. h (sym (ap (λ (v : Counters). v.stop) same) ∙ i)) long
     go (inl g) =
         let k = l (push-went (start 0 0) (state p b) g).0 in
         emitted (x.ran ∙ precede-links m (state p b) t refl g k ∙ sym (emit-unseen inp (rewritten-unseen inp below) (start 0 0 ∷ []) (state p b) k))
 
-module _ (inp : Input) {p : Parser} {b : List ℕ} {s : Started} {c : List ℕ} (m : ℕ) (x : Starts p b s c (precede m)) where
+module _ (inp : Input) {p : Counters} {b : List ℕ} {s : Started} {c : List ℕ} (m : ℕ) (x : Starts p b s c (precede m)) where
   preceded_counts : s.p ≡ advance inp (room b) (start 0 0 ∷ []) p
   unfolding emit enter
   preceded_counts = ap parser-of x.ran ∙ (precede-counts m (state p b)).0 ∙ emit-advance inp (start 0 0 ∷ []) (state p b)
@@ -212,33 +210,33 @@ module _ (inp : Input) {p : Parser} {b : List ℕ} {s : Started} {c : List ℕ} 
   unfolding emit enter
   preceded_rest = (
     ap (rest inp) preceded_counts ∙ one-rest inp (room b) (start 0 0) p refl,
-    ap (λ (t : Parser). t.left) preceded_counts ∙ advance-left inp (room b) (start 0 0 ∷ []) p,
+    ap (λ (t : Counters). t.left) preceded_counts ∙ advance-left inp (room b) (start 0 0 ∷ []) p,
     ap (λ (t : State). length t.words) x.ran ∙ (precede-counts m (state p b)).1 ∙ emit-long inp (start 0 0 ∷ []) (state p b),
   )
 
 -- It goes on only where the parser went.
-pub preceded_goes : {p : Parser} {b : List ℕ} {s : Started} {c : List ℕ} (m : ℕ) → Starts p b s c (precede m) → s.p.stop ≡ 0 → p.stop ≡ 0
+pub preceded_goes : {p : Counters} {b : List ℕ} {s : Started} {c : List ℕ} (m : ℕ) → Starts p b s c (precede m) → s.p.stop ≡ 0 → p.stop ≡ 0
 preceded_goes {p} {b} m x h =
-    (push-went (start 0 0) (state p b) (ap (λ (t : Parser). t.stop) (sym (ap parser-of x.ran ∙ (precede-counts m (state p b)).0)) ∙ h)).0
+    (push-went (start 0 0) (state p b) (ap (λ (t : Counters). t.stop) (sym (ap parser-of x.ran ∙ (precede-counts m (state p b)).0)) ∙ h)).0
 
 -- The openers left stay as they are.
-pub emitted-left : {inp : Input} {es : List Event} {p : Parser} {b : List ℕ} {r : Parser} {c : List ℕ} → Emitted inp es p b r c → r.left ≡ p.left
-emitted-left {inp} {es} {p} {b} x = ap (λ (t : Parser). t.left) (emitted-advance x) ∙ advance-left inp (room b) es p
+pub emitted-left : {inp : Input} {es : List Event} {p : Counters} {b : List ℕ} {r : Counters} {c : List ℕ} → Emitted inp es p b r c → r.left ≡ p.left
+emitted-left {inp} {es} {p} {b} x = ap (λ (t : Counters). t.left) (emitted-advance x) ∙ advance-left inp (room b) es p
 
 -- Events from another number of openers left, which is then set back.
-pub emitted-raised : {inp : Input} {es : List Event} {p : Parser} {b : List ℕ} {r : Parser} {c : List ℕ} (l : ℕ) → Emitted inp es (with_left l p) b r c →
+pub emitted-raised : {inp : Input} {es : List Event} {p : Counters} {b : List ℕ} {r : Counters} {c : List ℕ} (l : ℕ) → Emitted inp es (with_left l p) b r c →
     Emitted inp es p b (with_left p.left r) c
 emitted-raised {inp} {es} {p} {b} {r} {c} l x =
     let s = emit inp es (state p b) in
     let e : emit inp es (state (with_left l p) b) ≡ raised inp l s = emit-unseen inp (raised-unseen inp l) es (state p b) zero-le in
-    let left : s.parser.left ≡ p.left = ap (λ (t : Parser). t.left) (emit-advance inp es (state p b)) ∙ advance-left inp (room b) es p in
+    let left : s.parser.left ≡ p.left = ap (λ (t : Counters). t.left) (emit-advance inp es (state p b)) ∙ advance-left inp (room b) es p in
     record { parser = ap (with_left p.left) (x.parser ∙ ap parser-of e) ∙ ap (λ (n : ℕ). with_left n s.parser) (sym left); words = λ h. x.words h ∙ ap words_of e; long = x.long }
 
-pub started-left : {p : Parser} {b : List ℕ} {s : Started} {c : List ℕ} → Starts p b s c (push (start 0 0)) → s.p.left ≡ p.left
+pub started-left : {p : Counters} {b : List ℕ} {s : Started} {c : List ℕ} → Starts p b s c (push (start 0 0)) → s.p.left ≡ p.left
 started-left x = emitted-left (emitted-started {inp = input [] []} x)
 
-pub preceded_left : {p : Parser} {b : List ℕ} {s : Started} {c : List ℕ} (m : ℕ) → Starts p b s c (precede m) → s.p.left ≡ p.left
+pub preceded_left : {p : Counters} {b : List ℕ} {s : Started} {c : List ℕ} (m : ℕ) → Starts p b s c (precede m) → s.p.left ≡ p.left
 preceded_left m x = (preceded_rest (input [] []) m x).1
 
-pub completed-left : {m : Marker} {k : ℕ} {p : Parser} {b : List ℕ} {r : Completed} {c : List ℕ} → Completes m k p b r c → r.p.left ≡ p.left
+pub completed-left : {m : Marker} {k : ℕ} {p : Counters} {b : List ℕ} {r : Completed} {c : List ℕ} → Completes m k p b r c → r.p.left ≡ p.left
 completed-left x = emitted-left (emitted-completed {inp = input [] []} x)

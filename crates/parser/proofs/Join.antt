@@ -18,9 +18,7 @@ use Rattle.predictive.proofs.Tests.{never}
 use Rattle.predictive.proofs.Heads.{at-append, in_l}
 use Rattle.predictive.proofs.Takes.{both, both-events, both_left, boxed, boxed-events, boxed-left}
 use Rattle.aadl.specs.Section.{Rule, rules, firsts, grammar}
-use Rattle.parser.specs.declared.Parser.{Parser}
-use Rattle.parser.specs.declared.Started.{Started}
-use Rattle.parser.specs.declared.Completed.{Completed}
+use Rattle.parser.specs.Counters.{Counters, Started, Completed}
 use Rattle.parser.specs.Input.{Input, rest}
 use Rattle.parser.specs.Buffer.{room, named}
 use Rattle.parser.specs.State.{State, state, with_left, push, halt, enter, emit}
@@ -32,7 +30,7 @@ use Rattle.parser.proofs.Emitted.{emitted, emitted-goes, emitted-advance, emitte
 
 -- WHAT CAME OF A READING -----------------------------------------------------------------------------------------------
 
-module _ {inp : Input} {o : Result} {p : Parser} {b : List ℕ} {r : Parser} {c : List ℕ} (x : Became inp o p b r c) where
+module _ {inp : Input} {o : Result} {p : Counters} {b : List ℕ} {r : Counters} {c : List ℕ} (x : Became inp o p b r c) where
   pub became_goes : r.stop ≡ 0 → p.stop ≡ 0
   became_goes h = emitted-goes x.emitted h
 
@@ -41,16 +39,16 @@ module _ {inp : Input} {o : Result} {p : Parser} {b : List ℕ} {r : Parser} {c 
 
   pub became_no_more : length (rest inp r) ≤ length (rest inp p)
   became_no_more =
-      subst (λ (t : Parser). length (rest inp t) ≤ length (rest inp p)) (sym (emitted-advance x.emitted))
+      subst (λ (t : Counters). length (rest inp t) ≤ length (rest inp p)) (sym (emitted-advance x.emitted))
       (advance-no_more inp (room b) (events_of o) p)
 
 -- The same by another result, equal where the parser goes on.
-pub became_same : {inp : Input} {o t : Result} {p : Parser} {b : List ℕ} {r : Parser} {c : List ℕ} → (p.stop ≡ 0 → o ≡ t) →
+pub became_same : {inp : Input} {o t : Result} {p : Counters} {b : List ℕ} {r : Counters} {c : List ℕ} → (p.stop ≡ 0 → o ≡ t) →
     Became inp o p b r c → Became inp t p b r c
 became_same {inp} {o} {t} {p} e x =
     record { emitted = emitted-either (λ g. ap events_of (e g)) x.emitted; ends = λ g h. x.ends g h ∙ ap left_over (e g) }
 
-module _ {inp : Input} {p : Parser} {b : List ℕ} {r : Parser} {c : List ℕ} where
+module _ {inp : Input} {p : Counters} {b : List ℕ} {r : Counters} {c : List ℕ} where
   pub r-same : {d e : ℕ} {P Q : Part Rule} → ((n : ℕ) → p.stop ≡ 0 → reading_at inp n d P p ≡ reading_at inp n e Q p) → Read inp d P p b r c →
       Read inp e Q p b r c
   r-same f x = record { did = λ n l. became_same (f n) (x.did n l) }
@@ -67,7 +65,7 @@ module _ {inp : Input} {p : Parser} {b : List ℕ} {r : Parser} {c : List ℕ} w
 -- ONE AFTER THE OTHER --------------------------------------------------------------------------------------------------
 
 -- What was read by o, and then by k of what o left.
-pub became_both : {inp : Input} {o t : Result} {p : Parser} {b : List ℕ} {q : Parser} {c : List ℕ} {r : Parser} {d : List ℕ} (k : List ℕ → Result) →
+pub became_both : {inp : Input} {o t : Result} {p : Counters} {b : List ℕ} {q : Counters} {c : List ℕ} {r : Counters} {d : List ℕ} (k : List ℕ → Result) →
     Became inp o p b q c → Became inp t q c r d → (q.stop ≡ 0 → t ≡ k (left_over o)) → Became inp (both o k) p b r d
 became_both {inp} {o} {t} {p} {b} {q} {c} {r} {d} k x y e =
     record {
@@ -77,7 +75,7 @@ became_both {inp} {o} {t} {p} {b} {q} {c} {r} {d} k x y e =
       ends = λ g h. let m = became_goes y h in y.ends m h ∙ ap left_over (e m) ∙ sym (both_left o k);
     }
 
-pub r-seq : {inp : Input} {d : ℕ} {P Q : Part Rule} {p : Parser} {b : List ℕ} {q : Parser} {c : List ℕ} {r : Parser} {e : List ℕ} →
+pub r-seq : {inp : Input} {d : ℕ} {P Q : Part Rule} {p : Counters} {b : List ℕ} {q : Counters} {c : List ℕ} {r : Counters} {e : List ℕ} →
     Read inp d P p b q c → Read inp d Q q c r e → Read inp d (seq P Q) p b r e
 unfolding read step
 r-seq {inp} {d} {P} {Q} x y =
@@ -90,7 +88,7 @@ r-seq {inp} {d} {P} {Q} x y =
 
 -- CHOICES --------------------------------------------------------------------------------------------------------------
 
-module _ (inp : Input) (hs : List Head) (p : Parser) where
+module _ (inp : Input) (hs : List Head) (p : Counters) where
   pub stands-goes : stands inp hs p ≡ true → p.stop ≡ 0
   unfolding stands
   stands-goes = go (eqb p.stop 0) refl
@@ -104,21 +102,21 @@ module _ (inp : Input) (hs : List Head) (p : Parser) where
   stands_at e h = rw (eq-eqb p.stop 0 h) at e
 
 -- Nothing is read.
-pub became_nothing : {inp : Input} {p : Parser} {b : List ℕ} → Became inp (done nil (rest inp p)) p b p b
+pub became_nothing : {inp : Input} {p : Counters} {b : List ℕ} → Became inp (done nil (rest inp p)) p b p b
 unfolding events_of left_over events emit
 became_nothing = record { emitted = emitted refl; ends = λ g h. refl }
 
-module _ {inp : Input} {d : ℕ} {c : Choice} {P : Part Rule} {p : Parser} {b : List ℕ} where
-  pub r-opt_yes : {r : Parser} {e : List ℕ} → stands inp (heads_of P) p ≡ true → Read inp d P p b r e → Read inp d (opt c P) p b r e
+module _ {inp : Input} {d : ℕ} {c : Choice} {P : Part Rule} {p : Counters} {b : List ℕ} where
+  pub r-opt_yes : {r : Counters} {e : List ℕ} → stands inp (heads_of P) p ≡ true → Read inp d P p b r e → Read inp d (opt c P) p b r e
   unfolding read step
   r-opt_yes s x = r-same (λ n h. sym (rw (stands_at inp (heads_of P) p s h) refl)) x
 
-  pub r-opt_sure : {r : Parser} {e : List ℕ} → stands inp (heads_of P) p ≡ true → Read inp d (opt c P) p b r e → Read inp d P p b r e
+  pub r-opt_sure : {r : Counters} {e : List ℕ} → stands inp (heads_of P) p ≡ true → Read inp d (opt c P) p b r e → Read inp d P p b r e
   unfolding read step
   r-opt_sure s x = r-same (λ n h. rw (stands_at inp (heads_of P) p s h) refl) x
 
   -- the same before another part
-  pub r-opt_first_sure : {Q : Part Rule} {r : Parser} {e : List ℕ} → stands inp (heads_of P) p ≡ true → Read inp d (seq (opt c P) Q) p b r e → Read inp d (seq P Q) p b r e
+  pub r-opt_first_sure : {Q : Part Rule} {r : Counters} {e : List ℕ} → stands inp (heads_of P) p ≡ true → Read inp d (seq (opt c P) Q) p b r e → Read inp d (seq P Q) p b r e
   unfolding read step
   r-opt_first_sure s x = r-same (λ n h. rw (stands_at inp (heads_of P) p s h) refl) x
 
@@ -126,7 +124,7 @@ module _ {inp : Input} {d : ℕ} {c : Choice} {P : Part Rule} {p : Parser} {b : 
   unfolding read step
   r-opt_no s = record { did = λ n l. became_same (λ h. sym (rw (stands_at inp (heads_of P) p s h) refl)) became_nothing }
 
-module _ {inp : Input} {d : ℕ} {o : Choice} {P Q : Part Rule} {p : Parser} {b : List ℕ} {r : Parser} {c : List ℕ} where
+module _ {inp : Input} {d : ℕ} {o : Choice} {P Q : Part Rule} {p : Counters} {b : List ℕ} {r : Counters} {c : List ℕ} where
   pub r-left : stands inp (heads_of P) p ≡ true → Read inp d P p b r c → Read inp d (either o P Q) p b r c
   unfolding read step
   r-left s x = r-same (λ n h. sym (rw (stands_at inp (heads_of P) p s h) refl)) x
@@ -136,7 +134,7 @@ module _ {inp : Input} {d : ℕ} {o : Choice} {P Q : Part Rule} {p : Parser} {b 
   r-right s x = r-same (λ n h. sym (rw (stands_at inp (heads_of P) p s h) refl)) x
 
 -- A choice that may be left out: its first side, or what is left.
-module _ {inp : Input} {d : ℕ} {c o : Choice} {P Q : Part Rule} {p : Parser} {b : List ℕ} {r : Parser} {e : List ℕ} where
+module _ {inp : Input} {d : ℕ} {c o : Choice} {P Q : Part Rule} {p : Counters} {b : List ℕ} {r : Counters} {e : List ℕ} where
   pub r-opt_left : stands inp (heads_of P) p ≡ true → Read inp d P p b r e → Read inp d (opt c (either o P Q)) p b r e
   unfolding read step first
   r-opt_left s x = r-same (λ n h. let a = stands_at inp (heads_of P) p s h in sym (rw (in_l (heads_of P) (heads_of Q) (rest inp p) a, a) refl)) x
@@ -150,13 +148,13 @@ is_at : (k : ℕ) (xs : List ℕ) (t : Bool) → at (one k ∷ []) xs ≡ t → 
 is_at k [] t e = e
 is_at k (x ∷ xs) t e = sym (or-false (eqb x k)) ∙ e
 
-module _ {inp : Input} {d k : ℕ} {P : Part Rule} {p : Parser} {b : List ℕ} where
-  pub r-until_at_once : {r : Parser} {e : List ℕ} → stands inp (one k ∷ []) p ≡ true → Read inp d (tok unmet (k ∷ [])) p b r e →
+module _ {inp : Input} {d k : ℕ} {P : Part Rule} {p : Counters} {b : List ℕ} where
+  pub r-until_at_once : {r : Counters} {e : List ℕ} → stands inp (one k ∷ []) p ≡ true → Read inp d (tok unmet (k ∷ [])) p b r e →
       Read inp d (until k P) p b r e
   unfolding read step
   r-until_at_once s x = r-same (λ n h. sym (rw (is_at k (rest inp p) true (stands_at inp (one k ∷ []) p s h)) refl)) x
 
-  pub r-until : {q : Parser} {c : List ℕ} {r : Parser} {e : List ℕ} → stands inp (one k ∷ []) p ≡ false → Read inp d P p b q c →
+  pub r-until : {q : Counters} {c : List ℕ} {r : Counters} {e : List ℕ} → stands inp (one k ∷ []) p ≡ false → Read inp d P p b q c →
       Read inp d (tok (expected k) (k ∷ [])) q c r e →
       Read inp d (until k P) p b r e
   unfolding read step
@@ -166,15 +164,15 @@ module _ {inp : Input} {d k : ℕ} {P : Part Rule} {p : Parser} {b : List ℕ} w
 
 module _ {inp : Input} where
   -- pushing a Start or a Finish moves nothing on
-  pub rest-started : {p : Parser} {b : List ℕ} {q : Parser} {c : List ℕ} {k up : ℕ} → Emitted inp (start k up ∷ []) p b q c → rest inp q ≡ rest inp p
+  pub rest-started : {p : Counters} {b : List ℕ} {q : Counters} {c : List ℕ} {k up : ℕ} → Emitted inp (start k up ∷ []) p b q c → rest inp q ≡ rest inp p
   unfolding advance
   rest-started {p} {b} {k = k} {up = up} x = ap (rest inp) (emitted-advance x) ∙ one-rest inp (room b) (start k up) p refl
 
-  pub rest-finished : {p : Parser} {b : List ℕ} {q : Parser} {c : List ℕ} → Emitted inp (finish ∷ []) p b q c → rest inp q ≡ rest inp p
+  pub rest-finished : {p : Counters} {b : List ℕ} {q : Counters} {c : List ℕ} → Emitted inp (finish ∷ []) p b q c → rest inp q ≡ rest inp p
   unfolding advance
   rest-finished {p} {b} x = ap (rest inp) (emitted-advance x) ∙ one-rest inp (room b) finish p refl
 
-pub r-inside : {inp : Input} {d k : ℕ} {P : Part Rule} {p : Parser} {b : List ℕ} {s : Started} {c : List ℕ} {q : Parser} {e : List ℕ} {r : Completed} {f : List ℕ} →
+pub r-inside : {inp : Input} {d k : ℕ} {P : Part Rule} {p : Counters} {b : List ℕ} {s : Started} {c : List ℕ} {q : Counters} {e : List ℕ} {r : Completed} {f : List ℕ} →
     Starts p b s c (push (start 0 0)) → Read inp d P s.p c q e → Completes s.m k q e r f → Read inp d (inside k P) p b r.p f
 unfolding read step
 r-inside {inp} {d} {k} {P} {p} {b} {s} {c} {q} {e} {r} {f} x y z = record { did = boxes }
@@ -200,9 +198,9 @@ pub within-left : (n d : ℕ) (xs : List ℕ) (o : Result) → (d ≡ 0 → ⊥)
 within-left n zero xs o h = absurd (h refl)
 within-left n (suc d) xs o h = refl
 
-module _ {inp : Input} {P : Part Rule} {p : Parser} {b : List ℕ} where
+module _ {inp : Input} {P : Part Rule} {p : Counters} {b : List ℕ} where
   -- An opener, read with one opener fewer left.
-  pub r-opens : {q : Parser} {c : List ℕ} → (p.left ≡ 0 → ⊥) → Read inp (suc (p.left - 1)) P (with_left (p.left - 1) p) b q c →
+  pub r-opens : {q : Counters} {c : List ℕ} → (p.left ≡ 0 → ⊥) → Read inp (suc (p.left - 1)) P (with_left (p.left - 1) p) b q c →
       Read inp p.left (opens P) p b (with_left p.left q) c
   unfolding read step rest
   r-opens {q} {c} f x = record { did = opened }
@@ -217,19 +215,19 @@ module _ {inp : Input} {P : Part Rule} {p : Parser} {b : List ℕ} where
           became_same (λ h. sym (within-left 6 p.left (rest inp p) o f)) (record { emitted = emitted-raised (p.left - 1) i.emitted; ends = i.ends })
 
   -- An opener too many.
-  pub r-deep : {r : Parser} → p.left ≡ 0 → Ran (halt 6) p b r b → Read inp p.left (opens P) p b r b
+  pub r-deep : {r : Counters} {c : List ℕ} → p.left ≡ 0 → Ran (halt 6) p b r c → Read inp p.left (opens P) p b r c
   unfolding read step emit enter events_of left_over
-  r-deep {r} e x = record { did = λ n l. became_same (λ h. rw e refl) deep }
+  r-deep {r} {c} e x = record { did = λ n l. became_same (λ h. rw e refl) deep }
     where
-      deep : Became inp (miss (refusal 6) (rest inp p)) p b r b
+      deep : Became inp (miss (refusal 6) (rest inp p)) p b r c
       deep = record { emitted = emitted x.ran; ends = λ g h. absurd (halt-stops 6 (state p b) (ap (λ (s : State). s.parser.stop) (sym x.ran) ∙ h)) }
 
 -- A rule, inside an opener.
-pub r-rule : {inp : Input} {d : ℕ} (r : Rule) {p : Parser} {b : List ℕ} {q : Parser} {c : List ℕ} → Read inp d (rules r) p b q c → Read inp (suc d) (rule r) p b q c
+pub r-rule : {inp : Input} {d : ℕ} (r : Rule) {p : Counters} {b : List ℕ} {q : Counters} {c : List ℕ} → Read inp d (rules r) p b q c → Read inp (suc d) (rule r) p b q c
 unfolding read step below
 r-rule r x = r-same (λ n h. refl) x
 
-pub r-opt_rule : {inp : Input} {d : ℕ} {o : Choice} (r : Rule) {p : Parser} {b : List ℕ} {q : Parser} {c : List ℕ} → heads_of (rules r) ≡ firsts r →
+pub r-opt_rule : {inp : Input} {d : ℕ} {o : Choice} (r : Rule) {p : Counters} {b : List ℕ} {q : Counters} {c : List ℕ} → heads_of (rules r) ≡ firsts r →
     Read inp d (opt o (rules r)) p b q c → Read inp (suc d) (opt o (rule r)) p b q c
 unfolding read step below first
 r-opt_rule {inp} {d} r {p} e x =
@@ -238,6 +236,6 @@ r-opt_rule {inp} {d} r {p} e x =
 -- NODES WITH THEIR MARKERS ---------------------------------------------------------------------------------------------
 
 -- A node that is begun, read and completed.
-pub n_inside : {inp : Input} {d k : ℕ} {P : Part Rule} {p : Parser} {b : List ℕ} {s : Started} {c : List ℕ} {q : Parser} {e : List ℕ} {r : Completed} {f : List ℕ} →
+pub n_inside : {inp : Input} {d k : ℕ} {P : Part Rule} {p : Counters} {b : List ℕ} {s : Started} {c : List ℕ} {q : Counters} {e : List ℕ} {r : Completed} {f : List ℕ} →
     Starts p b s c (push (start 0 0)) → Read inp d P s.p c q e → Completes s.m k q e r f → ReadNode inp d (inside k P) p b r f
 n_inside x y z = record { reads = r-inside x y z; mark = z.mark ∙ x.mark }

@@ -15,3 +15,4 @@ pub mod Turns
 pub mod Nodes
 pub mod Chains
 pub mod Levels
+pub mod Parsers

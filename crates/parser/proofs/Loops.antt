@@ -17,7 +17,7 @@ use Rattle.predictive.proofs.Tests.{never}
 use Rattle.predictive.proofs.Heads.{at_end}
 use Rattle.predictive.proofs.Takes.{takes, takes_one}
 use Rattle.aadl.specs.Section.{Rule, grammar}
-use Rattle.parser.specs.declared.Parser.{Parser}
+use Rattle.parser.specs.Counters.{Counters}
 use Rattle.parser.specs.Input.{Input, rest}
 use Rattle.parser.specs.Buffer.{room}
 use Rattle.parser.specs.Reads.{stands, heads_of, reading_at, Became, Read}
@@ -27,20 +27,20 @@ use Rattle.parser.proofs.Emitted.{emitted-advance}
 use Rattle.parser.proofs.Join.{became_goes, became_no_more, became_same, became_both, became_nothing, stands-goes, stands_at, read_left, read-long}
 
 -- what there is to read
-abbrev pub μ : Input → Parser → ℕ
+abbrev pub μ : Input → Counters → ℕ
 μ inp p = cond (eqb p.stop 0) (length (rest inp p)) 0
 
 -- A HEAD THAT STANDS IS TAKEN ------------------------------------------------------------------------------------------
 
 -- where a head stands, something remains
-pub remains : (inp : Input) (hs : List Head) (p : Parser) → stands inp hs p ≡ true → 0 < length (rest inp p)
+pub remains : (inp : Input) (hs : List Head) (p : Counters) → stands inp hs p ≡ true → 0 < length (rest inp p)
 remains inp hs p s = some (rest inp p) (stands_at inp hs p s (stands-goes inp hs p s))
   where
     some : (xs : List ℕ) → at hs xs ≡ true → 0 < length xs
     some [] e = never (sym (at_end hs) ∙ e)
     some (x ∷ xs) e = omega arith
 
-module _ {inp : Input} {d : ℕ} {P : Part Rule} {p : Parser} {b : List ℕ} {q : Parser} {c : List ℕ} where
+module _ {inp : Input} {d : ℕ} {P : Part Rule} {p : Counters} {b : List ℕ} {q : Counters} {c : List ℕ} where
   pub took_one : takes P ≡ true → stands inp (heads_of P) p ≡ true → Read inp d P p b q c → q.stop ≡ 0 → length (rest inp q) < length (rest inp p)
   unfolding read
   took_one t s x h =
@@ -48,9 +48,9 @@ module _ {inp : Input} {d : ℕ} {P : Part Rule} {p : Parser} {b : List ℕ} {q 
       let o = reading_at inp n d P p in
       let a = stands_at inp (heads_of P) p s (stands-goes inp (heads_of P) p s) in
       let e = emitted-advance (x.did n (omega arith)).emitted in
-      let f = advance-fewer inp (room b) (events_of o) p (ap (λ (u : Parser). u.stop) (sym e) ∙ h) in
+      let f = advance-fewer inp (room b) (events_of o) p (ap (λ (u : Counters). u.stop) (sym e) ∙ h) in
       let k : 1 ≤ taken (events_of o) = takes_one grammar n d (below grammar n d) P (rest inp p) t a in
-      omega (arith, f, k, remains inp (heads_of P) p s, ap (λ (u : Parser). length (rest inp u)) e)
+      omega (arith, f, k, remains inp (heads_of P) p s, ap (λ (u : Counters). length (rest inp u)) e)
 
   -- so the measure of a loop falls
   pub w-less : takes P ≡ true → stands inp (heads_of P) p ≡ true → Read inp d P p b q c → μ inp q < μ inp p
@@ -64,7 +64,7 @@ module _ {inp : Input} {d : ℕ} {P : Part Rule} {p : Parser} {b : List ℕ} {q 
       go (inr h) = rw (ne_eqb q.stop 0 h, eq-eqb p.stop 0 g) (remains inp (heads_of P) p s)
 
 -- what a reading leaves is no more than there was
-pub no_more_left : {inp : Input} {d : ℕ} {P : Part Rule} {p : Parser} {b : List ℕ} {q : Parser} {c : List ℕ} → Read inp d P p b q c → μ inp q ≤ μ inp p
+pub no_more_left : {inp : Input} {d : ℕ} {P : Part Rule} {p : Counters} {b : List ℕ} {q : Counters} {c : List ℕ} → Read inp d P p b q c → μ inp q ≤ μ inp p
 no_more_left {inp} {d} {P} {p} {b} {q} {c} x = go (goes-or_stopped q.stop)
   where
     y : Became inp (reading_at inp (suc (length (rest inp p))) d P p) p b q c
@@ -80,23 +80,23 @@ abbrev turns : (n d : ℕ) → Part Rule → ℕ → List ℕ → Result
 turns n d P m xs = repeat (λ ys. read grammar n d P ys) (heads_of P) m xs
 
 -- Where a loop over P stands that began at p₀, with so many turns allowed.
-record Turn (inp : Input) (n d : ℕ) (P : Part Rule) (p₀ : Parser) (b₀ : List ℕ) (p : Parser) (b : List ℕ) : Type 0 where
+record Turn (inp : Input) (n d : ℕ) (P : Part Rule) (p₀ : Counters) (b₀ : List ℕ) (p : Counters) (b : List ℕ) : Type 0 where
   allowed : ℕ
   enough : p.stop ≡ 0 → length (rest inp p) < allowed
-  whole : (r : Parser) (c : List ℕ) → Became inp (turns n d P allowed (rest inp p)) p b r c → Became inp (reading_at inp n d (many P) p₀) p₀ b₀ r c
+  whole : (r : Counters) (c : List ℕ) → Became inp (turns n d P allowed (rest inp p)) p b r c → Became inp (reading_at inp n d (many P) p₀) p₀ b₀ r c
 
-pub record Turning (inp : Input) (d : ℕ) (P : Part Rule) (p₀ : Parser) (b₀ : List ℕ) (p : Parser) (b : List ℕ) : Type 0 where
+pub record Turning (inp : Input) (d : ℕ) (P : Part Rule) (p₀ : Counters) (b₀ : List ℕ) (p : Counters) (b : List ℕ) : Type 0 where
   turn : (n : ℕ) → length (rest inp p₀) < n → Turn inp n d P p₀ b₀ p b
   no_more : length (rest inp p) ≤ length (rest inp p₀)
   pub left : p.left ≡ p₀.left
   pub long : length b ≡ length b₀
 
 module _ {inp : Input} {d : ℕ} {P : Part Rule} where
-  pub w-holds : {p : Parser} {b : List ℕ} → Turning inp d P p b p b
+  pub w-holds : {p : Counters} {b : List ℕ} → Turning inp d P p b p b
   unfolding read step
   w-holds = record { turn = λ n l. record { allowed = n; enough = λ h. l; whole = λ r c x. x }; no_more = omega arith; left = refl; long = refl }
 
-  pub w-again : {p₀ : Parser} {b₀ : List ℕ} {p : Parser} {b : List ℕ} {q : Parser} {c : List ℕ} → takes P ≡ true → Turning inp d P p₀ b₀ p b →
+  pub w-again : {p₀ : Counters} {b₀ : List ℕ} {p : Counters} {b : List ℕ} {q : Counters} {c : List ℕ} → takes P ≡ true → Turning inp d P p₀ b₀ p b →
       stands inp (heads_of P) p ≡ true → Read inp d P p b q c → Turning inp d P p₀ b₀ q c
   unfolding repeat
   w-again {p₀} {b₀} {p} {b} {q} {c} t w s x =
@@ -108,7 +108,7 @@ module _ {inp : Input} {d : ℕ} {P : Part Rule} where
       }
     where
       on : (n : ℕ) → length (rest inp p₀) < n → (m : ℕ) → length (rest inp p) < m →
-          ((r : Parser) (e : List ℕ) → Became inp (turns n d P m (rest inp p)) p b r e → Became inp (reading_at inp n d (many P) p₀) p₀ b₀ r e) →
+          ((r : Counters) (e : List ℕ) → Became inp (turns n d P m (rest inp p)) p b r e → Became inp (reading_at inp n d (many P) p₀) p₀ b₀ r e) →
           Turn inp n d P p₀ b₀ q c
       on n l zero i k = let z : ⊥ = omega (arith, i) in absurd z
       on n l (suc m) i k =
@@ -121,7 +121,7 @@ module _ {inp : Input} {d : ℕ} {P : Part Rule} where
                 (became_both (turns n d P m) y z (λ h. ap (turns n d P m) (y.ends (became_goes y h) h))));
           }
 
-  pub w-done : {p₀ : Parser} {b₀ : List ℕ} {p : Parser} {b : List ℕ} → Turning inp d P p₀ b₀ p b → stands inp (heads_of P) p ≡ false → Read inp d (many P) p₀ b₀ p b
+  pub w-done : {p₀ : Counters} {b₀ : List ℕ} {p : Counters} {b : List ℕ} → Turning inp d P p₀ b₀ p b → stands inp (heads_of P) p ≡ false → Read inp d (many P) p₀ b₀ p b
   unfolding repeat
   w-done {p₀} {b₀} {p} {b} w s = record { did = λ n l. let k = w.turn n l in k.whole p b (became_same (λ h. sym (ends n k.allowed (k.enough h) h)) became_nothing) }
     where

@@ -6,8 +6,7 @@ use mathlib.Core.List.{List}
 use lib.Dec.{ltb}
 use borrow.Author.Tests.{lt-ltb, le-ltb}
 use Rattle.predictive.specs.Events.{start, finish}
-use Rattle.parser.specs.declared.Parser.{Parser}
-use Rattle.parser.specs.declared.Started.{Started}
+use Rattle.parser.specs.Counters.{Counters, Started}
 use Rattle.parser.specs.Buffer.{room, put, named, linked}
 use Rattle.parser.specs.State.{State, state, going, push, rewritten, complete, precede}
 use Rattle.parser.specs.Reads.{Starts}
@@ -26,7 +25,7 @@ unfolding complete
 complete-goes m k s h = going-goes (finished m k) s h
 
 -- A Start that was pushed had room.
-pub started-fits : {p : Parser} {b : List ℕ} {s : Started} {c : List ℕ} → Starts p b s c (push (start 0 0)) → s.p.stop ≡ 0 → p.used < room c
+pub started-fits : {p : Counters} {b : List ℕ} {s : Started} {c : List ℕ} → Starts p b s c (push (start 0 0)) → s.p.stop ≡ 0 → p.used < room c
 started-fits {p} {b} {s} {c} i h =
     let t = push-went (start 0 0) (state p b) (sym (ap (λ (t : State). t.parser.stop) i.ran) ∙ h) in
     let w : c ≡ put p (start 0 0) b = ap (λ (t : State). t.words) (i.ran ∙ t.2) in

@@ -1,4 +1,5 @@
 -- Readers that hand on a completed marker: an operand's node, no operand, and a suffix after one. Assumes nothing.
+use Rattle.std.specs.Prelude.{Option, Some, None}
 use Prim.Native.Nat.{ℕ, suc, ◌+◌, ◌-◌, ◌<◌}
 use native.Mathlib.Omega.{arith}
 use mathlib.Core.Path.{◌≡◌, refl, sym, ap, ◌∙◌}
@@ -7,7 +8,7 @@ use mathlib.Core.Logic.{◌⊎◌, inl, inr}
 use mathlib.Core.List.{List, [], ◌∷◌, ◌++◌, append_assoc}
 use lib.ListN.{length, length-append}
 use Rattle.predictive.specs.Forest.{Forest, Fault}
-use Rattle.predictive.specs.Grammar.{at, Choice, Part, suffix}
+use Rattle.predictive.specs.Grammar.{at, Choice, Part, suffix, opens}
 use Rattle.predictive.specs.Reader.{Result, miss, done, pick, firstly, step, read}
 use Rattle.predictive.specs.Events.{start, finish, events, behind_start, events_of, left_over}
 use Rattle.predictive.proofs.Proper.{Whole}
@@ -15,33 +16,28 @@ use Rattle.predictive.proofs.Lookahead.{single}
 use Rattle.predictive.proofs.Readings.{reading-whole}
 use Rattle.predictive.proofs.Takes.{boxed, wrapped, wrapped-events}
 use Rattle.aadl.specs.Section.{Rule, grammar}
-use Rattle.parser.specs.declared.Parser.{Parser}
-use Rattle.parser.specs.declared.Started.{Started}
-use Rattle.parser.specs.declared.Completed.{Completed}
-use Rattle.parser.specs.declared.Operand.{Operand}
-use Rattle.parser.specs.declared.Lhs.{Lhs}
-use Rattle.parser.specs.declared.Lhs.TheVariants.{Node, Nothing}
+use Rattle.parser.specs.Counters.{Counters, Started, Completed, Operand}
 use Rattle.parser.specs.declared.CompletedMarker.{CompletedMarker}
 use Rattle.parser.specs.Input.{Input, rest}
-use Rattle.parser.specs.State.{precede}
+use Rattle.parser.specs.State.{precede, with_left}
 use Rattle.parser.specs.Reads.{stands, heads_of, reading_at, Became, Read, ReadOperand, marked, Starts, Completes}
 use Rattle.parser.proofs.Pushing.{goes-or_stopped}
 use Rattle.parser.proofs.Emitted.{emitted-used}
-use Rattle.parser.proofs.Join.{became_goes, r-same, became_no_more, stands-goes, stands_at}
+use Rattle.parser.proofs.Join.{became_goes, r-same, became_no_more, stands-goes, stands_at, r-opens, within-left}
 use Rattle.parser.proofs.Turns.{stopped-within, turned}
 
 -- OPERANDS -------------------------------------------------------------------------------------------------------------
 
 -- 0 for no node, else one more than where its Start stands
-abbrev place_of : Lhs → ℕ
-place_of (Node m) = suc m.0
-place_of Nothing = 0
+abbrev place_of : Option CompletedMarker → ℕ
+place_of (Some m) = suc m.0
+place_of None = 0
 
 -- What the completed marker of a reading of one node tells: there was a node, and where its own Start stands.
 pub data Found (used m : ℕ) : Result → Type 0 where
   found : {f : Forest} {ys : List ℕ} → m ≡ used - behind_start f → Found used m (done f ys)
 
-pub marker_found : (used : ℕ) (m : CompletedMarker) (o : Result) → Node m ≡ marked used o → Found used m.0 o
+pub marker_found : (used : ℕ) (m : CompletedMarker) (o : Result) → Some m ≡ marked used o → Found used m.0 o
 unfolding marked
 marker_found used m (miss x ys) e = let z : ⊥ = omega (arith, ap place_of e) in absurd z
 marker_found used m (done f ys) e = found (let z : m.0 ≡ used - behind_start f = omega (arith, ap place_of e) in z)
@@ -49,15 +45,15 @@ marker_found used m (done f ys) e = found (let z : m.0 ≡ used - behind_start f
 pub data Missing : Result → Type 0 where
   missing : {x : Fault} {ys : List ℕ} → Missing (miss x ys)
 
-pub nothing-missing : (used : ℕ) (o : Result) → Nothing ≡ marked used o → Missing o
+pub nothing-missing : (used : ℕ) (o : Result) → None ≡ marked used o → Missing o
 unfolding marked
 nothing-missing used (miss x ys) e = missing
 nothing-missing used (done f ys) e = let z : ⊥ = omega (arith, ap place_of e) in absurd z
 
-module _ {inp : Input} {d : ℕ} {P : Part Rule} {p : Parser} {b : List ℕ} {q : Parser} {c : List ℕ} where
+module _ {inp : Input} {d : ℕ} {P : Part Rule} {p : Counters} {b : List ℕ} {q : Counters} {c : List ℕ} where
   -- A node whose Start was the first event.
   pub o_node : {m : CompletedMarker} (k : ℕ) (o : ℕ → Result) → ((n : ℕ) → p.stop ≡ 0 → reading_at inp n d P p ≡ boxed k (o n)) → Read inp d P p b q c →
-      m.0 ≡ p.used → ReadOperand inp d P p b (record { p = q; lhs = Node m }) c
+      m.0 ≡ p.used → ReadOperand inp d P p b (record { p = q; lhs = Some m }) c
   unfolding marked events_of events
   o_node {m} k o e x s =
       record {
@@ -67,21 +63,33 @@ module _ {inp : Input} {d : ℕ} {P : Part Rule} {p : Parser} {b : List ℕ} {q 
             at-start (o n) u ∙ ap (marked q.used) (sym (e n g));
       }
     where
-      at-start : (t : Result) → q.used ≡ p.used + length (events_of (boxed k t)) → Node m ≡ marked q.used (boxed k t)
-      at-start (miss x ys) u = ap (λ (i : ℕ). Node (record { 0 = i })) (omega (arith, u, s))
-      at-start (done f ys) u = ap (λ (i : ℕ). Node (record { 0 = i })) (omega (arith, u, s, length-append (events f 0) (finish ∷ [])))
+      at-start : (t : Result) → q.used ≡ p.used + length (events_of (boxed k t)) → Some m ≡ marked q.used (boxed k t)
+      at-start (miss x ys) u = ap (λ (i : ℕ). Some (record { 0 = i })) (omega (arith, u, s))
+      at-start (done f ys) u = ap (λ (i : ℕ). Some (record { 0 = i })) (omega (arith, u, s, length-append (events f 0) (finish ∷ [])))
 
   -- No operand.
   pub o_none : (x : Fault) → ((n : ℕ) → p.stop ≡ 0 → reading_at inp n d P p ≡ miss x (rest inp p)) → Read inp d P p b q c →
-      ReadOperand inp d P p b (record { p = q; lhs = Nothing }) c
+      ReadOperand inp d P p b (record { p = q; lhs = None }) c
   unfolding marked
   o_none x e r = record { reads = r; mark = λ n l g h. ap (marked q.used) (sym (e n g)) }
 
 -- The same by another part, read alike where the parser goes on.
-pub o_same : {inp : Input} {d e : ℕ} {P Q : Part Rule} {p : Parser} {b : List ℕ} {o : Operand} {c : List ℕ} →
+pub o_same : {inp : Input} {d e : ℕ} {P Q : Part Rule} {p : Counters} {b : List ℕ} {o : Operand} {c : List ℕ} →
     ((n : ℕ) → p.stop ≡ 0 → reading_at inp n d P p ≡ reading_at inp n e Q p) →
     ReadOperand inp d P p b o c → ReadOperand inp e Q p b o c
 o_same {o = o} f x = record { reads = r-same f x.reads; mark = λ n l g h. x.mark n l g h ∙ ap (marked o.p.used) (f n g) }
+
+-- An opener, read with one opener fewer left.
+pub o_opens : {inp : Input} {P : Part Rule} {p : Counters} {b : List ℕ} {o : Operand} {c : List ℕ} → (p.left ≡ 0 → ⊥) →
+    ReadOperand inp (suc (p.left - 1)) P (with_left (p.left - 1) p) b o c → ReadOperand inp p.left (opens P) p b (record { p = with_left p.left o.p; lhs = o.lhs }) c
+unfolding read step rest
+o_opens {inp} {P} {p} {o = o} f x =
+    let level : suc (p.left - 1) ≡ p.left = omega (arith, f) in
+    record {
+      reads = r-opens f x.reads;
+      mark = λ n l g h. x.mark n l g h
+          ∙ ap (marked o.p.used) (ap (λ (d : ℕ). reading_at inp n d P p) level ∙ sym (within-left 6 p.left (rest inp p) _ f));
+    }
 
 -- SUFFIXES -------------------------------------------------------------------------------------------------------------
 
@@ -90,7 +98,7 @@ abbrev suffixed : (n d k : ℕ) → Part Rule → Result → Result
 suffixed n d k Q o = firstly o (λ f ys. pick (at (heads_of Q) ys) (wrapped k f (read grammar n d Q ys)) (done f ys))
 
 -- a reader that stopped before it
-stopped-suffix : {inp : Input} {p₀ : Parser} {b₀ : List ℕ} {p : Parser} {b : List ℕ} (n d k : ℕ) (Q : Part Rule) (o : Result) →
+stopped-suffix : {inp : Input} {p₀ : Counters} {b₀ : List ℕ} {p : Counters} {b : List ℕ} (n d k : ℕ) (Q : Part Rule) (o : Result) →
     ((f : Forest) (ys : List ℕ) → o ≡ done f ys → Whole f) → Became inp o p₀ b₀ p b → (p.stop ≡ 0 → ⊥) → Became inp (suffixed n d k Q o) p₀ b₀ p b
 stopped-suffix n d k Q (miss m ys) w y h = y
 stopped-suffix {inp} {p₀} {b₀} {p} {b} n d k Q (done f ys) w y h = go (at (heads_of Q) ys)
@@ -101,9 +109,9 @@ stopped-suffix {inp} {p₀} {b₀} {p} {b} n d k Q (done f ys) w y h = go (at (h
         (wrapped-events k f (read grammar n d Q ys) ∙ append_assoc (events f (behind_start f)) (start k 0 ∷ events_of (read grammar n d Q ys)) (finish ∷ []))
     go false = y
 
-module _ {inp : Input} {d k : ℕ} {c : Choice} {P Q : Part Rule} {p₀ : Parser} {b₀ : List ℕ} {p : Parser} {b : List ℕ} where
+module _ {inp : Input} {d k : ℕ} {c : Choice} {P Q : Part Rule} {p₀ : Counters} {b₀ : List ℕ} {p : Counters} {b : List ℕ} where
   -- P was missing.
-  pub x-none : single P ≡ true → ReadOperand inp d P p₀ b₀ (record { p = p; lhs = Nothing }) b → Read inp d (suffix c k P Q) p₀ b₀ p b
+  pub x-none : single P ≡ true → ReadOperand inp d P p₀ b₀ (record { p = p; lhs = None }) b → Read inp d (suffix c k P Q) p₀ b₀ p b
   unfolding read step
   x-none one x = record { did = λ n l. go n l (goes-or_stopped p.stop) }
     where
@@ -116,7 +124,7 @@ module _ {inp : Input} {d k : ℕ} {c : Choice} {P Q : Part Rule} {p₀ : Parser
           by (done _ _) y h = elim h [ ]
 
   -- P stands alone.
-  pub x-stay : {m : CompletedMarker} → single P ≡ true → ReadOperand inp d P p₀ b₀ (record { p = p; lhs = Node m }) b → stands inp (heads_of Q) p ≡ false →
+  pub x-stay : {m : CompletedMarker} → single P ≡ true → ReadOperand inp d P p₀ b₀ (record { p = p; lhs = Some m }) b → stands inp (heads_of Q) p ≡ false →
       Read inp d (suffix c k P Q) p₀ b₀ p b
   unfolding read step left_over
   x-stay {m} one x s = record { did = λ n l. go n l (goes-or_stopped p.stop) }
@@ -132,8 +140,8 @@ module _ {inp : Input} {d k : ℕ} {c : Choice} {P Q : Part Rule} {p₀ : Parser
           by (miss _ _) y h = elim h [ ]
 
   -- P is followed by Q.
-  pub x-turn : {m : CompletedMarker} {s : Started} {e : List ℕ} {q : Parser} {f : List ℕ} {r : Completed} {g : List ℕ} → single P ≡ true →
-      ReadOperand inp d P p₀ b₀ (record { p = p; lhs = Node m }) b → stands inp (heads_of Q) p ≡ true → Starts p b s e (precede m.0) → Read inp d Q s.p e q f →
+  pub x-turn : {m : CompletedMarker} {s : Started} {e : List ℕ} {q : Counters} {f : List ℕ} {r : Completed} {g : List ℕ} → single P ≡ true →
+      ReadOperand inp d P p₀ b₀ (record { p = p; lhs = Some m }) b → stands inp (heads_of Q) p ≡ true → Starts p b s e (precede m.0) → Read inp d Q s.p e q f →
       Completes s.m k q f r g → Read inp d (suffix c k P Q) p₀ b₀ r.p g
   unfolding read step left_over
   x-turn {m} {s} {e} {q} {f} {r} {g} one x t y z u = record { did = go }

@@ -60,13 +60,21 @@ pub push-stopped : (e : Event) (s : State) → Stopped s → push e s ≡ s
 unfolding push
 push-stopped e s h = going-stopped (push_or_stop e) s h
 
-pub push-fits : (e : Event) (s : State) → Goes s → Fits s → push e s ≡ appended e s
+pub push-goes : (e : Event) (s : State) → Goes s → push e s ≡ push_or_stop e s
 unfolding push
-push-fits e s h l = going-goes (push_or_stop e) s h ∙ rw (lt-ltb s.parser.used (room s.words) l) refl
+push-goes e s h = going-goes (push_or_stop e) s h
+
+pub pushed-fits : (e : Event) (s : State) → Fits s → push_or_stop e s ≡ appended e s
+pushed-fits e s l = rw (lt-ltb s.parser.used (room s.words) l) refl
+
+pub pushed-full : (e : Event) (s : State) → room s.words ≤ s.parser.used → push_or_stop e s ≡ stopped 5 s
+pushed-full e s l = rw (le-ltb s.parser.used (room s.words) l) refl
+
+pub push-fits : (e : Event) (s : State) → Goes s → Fits s → push e s ≡ appended e s
+push-fits e s h l = push-goes e s h ∙ pushed-fits e s l
 
 pub push-full : (e : Event) (s : State) → Goes s → room s.words ≤ s.parser.used → push e s ≡ stopped 5 s
-unfolding push
-push-full e s h l = going-goes (push_or_stop e) s h ∙ rw (le-ltb s.parser.used (room s.words) l) refl
+push-full e s h l = push-goes e s h ∙ pushed-full e s l
 
 -- A push after which the parser goes on had room.
 pub push-went : (e : Event) (s : State) → Goes (push e s) → Goes s × Fits s × (push e s ≡ appended e s)

@@ -13,8 +13,7 @@ use Rattle.predictive.proofs.Heads.{at_end, at_ones}
 use Rattle.predictive.proofs.Takes.{both, boxed}
 use Rattle.aadl.specs.Symbols.{shown}
 use Rattle.aadl.specs.Section.{Rule, grammar}
-use Rattle.parser.specs.declared.Parser.{Parser}
-use Rattle.parser.specs.declared.Started.{Started}
+use Rattle.parser.specs.Counters.{Counters, Started}
 use Rattle.parser.specs.Input.{Input, rest, END, ahead, nth}
 use Rattle.parser.specs.State.{State, state, push, precede, pass, passed, enter, emit}
 use Rattle.parser.specs.Reads.{stands, Ran, Emitted, Became, reading_at, Read, Starts}
@@ -40,7 +39,7 @@ pass-rest inp s g = go (goes-or_stopped s.parser.stop)
 -- ANY TOKEN ------------------------------------------------------------------------------------------------------------
 
 -- none at the end ..
-pub r-any_end : {inp : Input} {d : ℕ} {p : Parser} {b : List ℕ} → nth inp p 0 ≡ END → Read inp d any p b p b
+pub r-any_end : {inp : Input} {d : ℕ} {p : Counters} {b : List ℕ} → nth inp p 0 ≡ END → Read inp d any p b p b
 unfolding read step take_any
 r-any_end {inp} {d} {p} e = record { did = λ n l. became_same (λ h. sym (ended h)) became_nothing }
   where
@@ -48,10 +47,10 @@ r-any_end {inp} {d} {p} e = record { did = λ n l. became_same (λ h. sym (ended
     ended h = rw (rest-ends inp p (sym (nth-goes inp p 0 h) ∙ e)) refl
 
 -- .. else the one ahead
-pub r-any : {inp : Input} {d x : ℕ} {p : Parser} {b : List ℕ} {q : Parser} {c : List ℕ} {r : Parser} → x ≡ nth inp p 0 → (x ≡ END → ⊥) →
-    Ran (push (token (shown x))) p b q c → Ran (pass inp) q c r c → Read inp d any p b r c
+pub r-any : {inp : Input} {d x : ℕ} {p : Counters} {b : List ℕ} {r : Counters} {c : List ℕ} → x ≡ nth inp p 0 → (x ≡ END → ⊥) →
+    Ran (enter inp (token (shown x))) p b r c → Read inp d any p b r c
 unfolding read step take_any emit enter events_of events left_over
-r-any {inp} {d} {x} {p} {b} {q} {c} {r} e f i j =
+r-any {inp} {d} {x} {p} {b} {r} {c} e f j =
     record { did = λ n l. became_same (λ h. sym (ap (take_any shown) (split (rest inp p) (e ∙ nth-goes inp p 0 h)))) one_token }
   where
     split : (xs : List ℕ) → x ≡ ahead xs → xs ≡ x ∷ tail xs
@@ -61,12 +60,11 @@ r-any {inp} {d} {x} {p} {b} {q} {c} {r} e f i j =
     left : r.stop ≡ 0 → rest inp r ≡ tail (rest inp p)
     left g =
         ap (λ (s : State). rest inp s.parser) j.ran
-        ∙ pass-rest inp (state q c) (sym (ap (λ (s : State). s.parser.stop) j.ran) ∙ g)
-        ∙ ap (λ (s : State). tail (rest inp s.parser)) i.ran
+        ∙ pass-rest inp (push (token (shown x)) (state p b)) (sym (ap (λ (s : State). s.parser.stop) j.ran) ∙ g)
         ∙ ap tail (push-rest inp (token (shown x)) (state p b))
 
     one_token : Became inp (done (leaf (shown x) nil) (tail (rest inp p))) p b r c
-    one_token = record { emitted = emitted (j.ran ∙ ap (pass inp) i.ran); ends = λ h g. left g }
+    one_token = record { emitted = emitted j.ran; ends = λ h g. left g }
 
 -- A TOKEN OF SOME KINDS ------------------------------------------------------------------------------------------------
 
@@ -81,10 +79,10 @@ take_one-no m ks [] e = refl
 take_one-no m ks (x ∷ xs) e = rw (sym (at_ones ks x xs) ∙ e) refl
 
 -- a message, and nothing is taken
-stayed : (inp : Input) (e : Event) {p : Parser} {b : List ℕ} {r : Parser} {c : List ℕ} → Ran (push e) p b r c → rest inp r ≡ rest inp p
+stayed : (inp : Input) (e : Event) {p : Counters} {b : List ℕ} {r : Counters} {c : List ℕ} → Ran (push e) p b r c → rest inp r ≡ rest inp p
 stayed inp e {p} {b} x = ap (λ (s : State). rest inp s.parser) x.ran ∙ push-rest inp e (state p b)
 
-module _ {inp : Input} {d m : ℕ} {p : Parser} {b : List ℕ} {r : Parser} {c : List ℕ} where
+module _ {inp : Input} {d m : ℕ} {p : Counters} {b : List ℕ} {r : Counters} {c : List ℕ} where
   -- One that stands, if the parser goes on, is any token.
   pub r-took : {ks : List ℕ} → (p.stop ≡ 0 → at (ones ks) (rest inp p) ≡ true) → Read inp d any p b r c → Read inp d (tok m ks) p b r c
   unfolding read step
@@ -120,7 +118,7 @@ module _ {inp : Input} {d m : ℕ} {p : Parser} {b : List ℕ} {r : Parser} {c :
 
 -- A TOKEN THAT STOOD BEFORE A START ------------------------------------------------------------------------------------
 
-module _ {inp : Input} {d l : ℕ} {ks : List ℕ} {p : Parser} {b : List ℕ} {s : Started} {c : List ℕ} {r : Parser} {e : List ℕ} where
+module _ {inp : Input} {d l : ℕ} {ks : List ℕ} {p : Counters} {b : List ℕ} {s : Started} {c : List ℕ} {r : Counters} {e : List ℕ} where
   pub bumped_inside : Starts p b s c (push (start 0 0)) → stands inp (ones ks) p ≡ true → Read inp d any s.p c r e →
       Read inp d (tok l ks) s.p c r e
   bumped_inside x t y =

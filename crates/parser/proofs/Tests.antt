@@ -18,7 +18,7 @@ use Rattle.aadl.specs.Bytes.{peek}
 use Rattle.aadl.specs.Tokens.{kind_in}
 use Rattle.aadl.specs.Symbols.{C_STYLE, symbol_of, shown}
 use Rattle.aadl.specs.Section.{keywords, property_name}
-use Rattle.parser.specs.declared.Parser.{Parser}
+use Rattle.parser.specs.Counters.{Counters}
 use Rattle.parser.specs.Input.{Input, standing, rest, END, ahead, nth}
 use Rattle.parser.specs.Reads.{stands, heads_of}
 use Rattle.parser.proofs.Trivia.{ahead-is, ahead-ends}
@@ -39,20 +39,20 @@ unfolding standing shown
 standing-known text b [] = (λ e. refl, omega arith)
 standing-known text b (w ∷ vs) = (λ e. absurd ((symbol-known w (peek text b)).0 e), (symbol-known w (peek text b)).1)
 
-pub rest-ends : (inp : Input) (p : Parser) → ahead (rest inp p) ≡ END → rest inp p ≡ []
+pub rest-ends : (inp : Input) (p : Counters) → ahead (rest inp p) ≡ END → rest inp p ≡ []
 unfolding rest
 rest-ends inp p = (standing-known inp.text p.byte (drop p.at inp.words)).0
 
-pub nth-goes : (inp : Input) (p : Parser) (n : ℕ) → p.stop ≡ 0 → nth inp p n ≡ ahead (drop n (rest inp p))
+pub nth-goes : (inp : Input) (p : Counters) (n : ℕ) → p.stop ≡ 0 → nth inp p n ≡ ahead (drop n (rest inp p))
 unfolding nth
 nth-goes inp p n h = rw (eq-eqb p.stop 0 h) refl
 
-pub nth-stopped : (inp : Input) (p : Parser) (n : ℕ) → (p.stop ≡ 0 → ⊥) → nth inp p n ≡ END
+pub nth-stopped : (inp : Input) (p : Counters) (n : ℕ) → (p.stop ≡ 0 → ⊥) → nth inp p n ≡ END
 unfolding nth
 nth-stopped inp p n h = rw (ne_eqb p.stop 0 h) refl
 
 -- the kind of the token ahead fits into an event's word
-pub shown-small : (inp : Input) (p : Parser) {x k : ℕ} → x ≡ nth inp p 0 → k ≡ shown x → k < 258
+pub shown-small : (inp : Input) (p : Counters) {x k : ℕ} → x ≡ nth inp p 0 → k ≡ shown x → k < 258
 unfolding nth rest shown
 shown-small inp p {x} {k} e f = subst (λ (y : ℕ). y < 258) (sym (f ∙ ap shown e)) (go (eqb p.stop 0))
   where
@@ -86,7 +86,7 @@ is-ahead : (k : ℕ) (xs : List ℕ) → k < 256 → is k xs ≡ eqb (ahead xs) 
 is-ahead k [] h = sym (ne_eqb END k (λ e. omega (arith, e)))
 is-ahead k (x ∷ xs) h = refl
 
-pub one-is : (inp : Input) (p : Parser) (k : ℕ) {x : ℕ} → k < 256 → x ≡ nth inp p 0 → eqb x k ≡ stands inp (one k ∷ []) p
+pub one-is : (inp : Input) (p : Counters) (k : ℕ) {x : ℕ} → k < 256 → x ≡ nth inp p 0 → eqb x k ≡ stands inp (one k ∷ []) p
 unfolding nth stands
 one-is inp p k h e = ap (λ (x : ℕ). eqb x k) e ∙ go (eqb p.stop 0)
   where
@@ -94,7 +94,16 @@ one-is inp p k h e = ap (λ (x : ℕ). eqb x k) e ∙ go (eqb p.stop 0)
     go true = sym (is-ahead k (rest inp p) h) ∙ sym (or-false (is k (rest inp p)))
     go false = ne_eqb END k (λ e. omega (arith, e))
 
-pub two_is : (inp : Input) (p : Parser) (k l : ℕ) {t : Bool} → l < 256 → stands inp (one k ∷ []) p ≡ t →
+pub either-is : (inp : Input) (p : Counters) (k l : ℕ) {x : ℕ} → k < 256 → l < 256 → x ≡ nth inp p 0 →
+    (eqb x k || eqb x l) ≡ stands inp (one k ∷ one l ∷ []) p
+unfolding nth stands
+either-is inp p k l h i e = ap (λ (x : ℕ). eqb x k || eqb x l) e ∙ go (eqb p.stop 0)
+  where
+    go : (t : Bool) → (eqb (cond t (ahead (rest inp p)) END) k || eqb (cond t (ahead (rest inp p)) END) l) ≡ cond t (is k (rest inp p) || (is l (rest inp p) || false)) false
+    go true = rw (is-ahead k (rest inp p) h, is-ahead l (rest inp p) i, or-false (eqb (ahead (rest inp p)) l)) refl
+    go false = rw (ne_eqb END k (λ e. omega (arith, e)), ne_eqb END l (λ e. omega (arith, e))) refl
+
+pub two_is : (inp : Input) (p : Counters) (k l : ℕ) {t : Bool} → l < 256 → stands inp (one k ∷ []) p ≡ t →
     (t && eqb (nth inp p 1) l) ≡ stands inp (two k l ∷ []) p
 unfolding nth stands
 two_is inp p k l h e = ap (λ (t : Bool). t && eqb (nth inp p 1) l) (sym e) ∙ go (eqb p.stop 0) (rest inp p)
@@ -124,7 +133,7 @@ no_keyword = refl
 abbrev named : ℕ → ℕ → Bool
 named x y = eqb x (# IDENT) || (has keywords x && eqb y (# COLON))
 
-pub name-is : (inp : Input) (p : Parser) (m : ℕ) {x y : ℕ} → x ≡ nth inp p 0 → y ≡ nth inp p 1 →
+pub name-is : (inp : Input) (p : Counters) (m : ℕ) {x y : ℕ} → x ≡ nth inp p 0 → y ≡ nth inp p 1 →
     (eqb x (# IDENT) || (has keywords x && eqb y (# COLON))) ≡ stands inp (heads_of (property_name m)) p
 unfolding nth stands first ones
 name-is inp p m e f = ap₂ named e f ∙ go (eqb p.stop 0) (rest inp p)

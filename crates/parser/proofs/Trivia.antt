@@ -13,8 +13,7 @@ use borrow.Author.Tests.{leb-true, leb-false}
 use Rattle.aadl.specs.Bytes.{peek}
 use Rattle.aadl.specs.Tokens.{kind_in, length_in}
 use Rattle.aadl.specs.Symbols.{is_trivia, symbol_of, Placed, placed}
-use Rattle.parser.specs.declared.Parser.{Parser}
-use Rattle.parser.specs.declared.Place.{Place}
+use Rattle.parser.specs.Counters.{Counters, Place}
 use Rattle.parser.specs.Input.{Input, token_in, without_trivia, standing, rest, past, skip, trivia_ahead, after_one, next, END, ahead}
 
 abbrev pub tail : List ℕ → List ℕ
@@ -99,7 +98,7 @@ standing-after_one text ws i b = go (drop i ws) refl
     go (w ∷ vs) e = skip-stands text ws (suc i) (past text b w) vs (tail-is ws i w vs e) ∙ capped text (b + length_in w) vs
 
 -- The same where a parser stands, of a parser that was moved on.
-pub rest-after_one : (inp : Input) (p q : Parser) → q.at ≡ (next inp p).at → q.byte ≡ (next inp p).byte → rest inp q ≡ tail (rest inp p)
+pub rest-after_one : (inp : Input) (p q : Counters) → q.at ≡ (next inp p).at → q.byte ≡ (next inp p).byte → rest inp q ≡ tail (rest inp p)
 unfolding rest
 rest-after_one inp p q e f =
     ap₂ (λ (i b : ℕ). standing inp.text b (drop i inp.words)) e f ∙ standing-after_one inp.text inp.words p.at p.byte

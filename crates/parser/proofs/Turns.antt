@@ -12,9 +12,7 @@ use Rattle.predictive.specs.Events.{Event, start, finish, events, behind_start, 
 use Rattle.predictive.proofs.Proper.{Whole, whole-node, whole-wrap}
 use Rattle.predictive.proofs.Takes.{wrapped, wrapped-events, wrapped-left}
 use Rattle.aadl.specs.Section.{Rule, grammar}
-use Rattle.parser.specs.declared.Parser.{Parser}
-use Rattle.parser.specs.declared.Started.{Started}
-use Rattle.parser.specs.declared.Completed.{Completed}
+use Rattle.parser.specs.Counters.{Counters, Started, Completed}
 use Rattle.parser.specs.Input.{Input, rest}
 use Rattle.parser.specs.Buffer.{room, named, linked}
 use Rattle.parser.specs.State.{state, precede}
@@ -60,7 +58,7 @@ split (wrap k a b (node kind inside _)) w = elim w [ ]
 split (wrap k a b (wrap kind _ _ _)) w = elim w [ ]
 
 -- events with a forward parent count as those without
-advance-parent : (inp : Input) (n : ℕ) (f : Forest) → Whole f → (up vp : ℕ) (p : Parser) → advance inp n (events f up) p ≡ advance inp n (events f vp) p
+advance-parent : (inp : Input) (n : ℕ) (f : Forest) → Whole f → (up vp : ℕ) (p : Counters) → advance inp n (events f up) p ≡ advance inp n (events f vp) p
 advance-parent inp n f w up vp p =
     let s = split f w in
     ap (λ (l : List Event). advance inp n l p) (s.splits up)
@@ -68,7 +66,7 @@ advance-parent inp n f w up vp p =
     ∙ ap (λ (l : List Event). advance inp n l p) (sym (s.splits vp))
 
 -- A reader that stopped within f stops there too if f gets a parent and whatever follows.
-pub stopped-within : {inp : Input} {t : Result} {p : Parser} {b : List ℕ} {r : Parser} {c : List ℕ} (f : Forest) (ys : List ℕ) (up : ℕ) (ds : List Event) →
+pub stopped-within : {inp : Input} {t : Result} {p : Counters} {b : List ℕ} {r : Counters} {c : List ℕ} (f : Forest) (ys : List ℕ) (up : ℕ) (ds : List Event) →
     Whole f → Became inp (done f ys) p b r c → (r.stop ≡ 0 → ⊥) → events_of t ≡ events f up ++ ds → Became inp t p b r c
 unfolding events_of
 stopped-within {inp} {t} {p} {b} {r} {c} f ys up ds w x h e =
@@ -78,7 +76,7 @@ stopped-within {inp} {t} {p} {b} {r} {c} f ys up ds w x h e =
       emitted =
           emitted-stopped
           (same
-          ∙ sym (advance-stopped inp n ds (advance inp n (events f up) p) (λ g. h (ap (λ (u : Parser). u.stop) same ∙ g)))
+          ∙ sym (advance-stopped inp n ds (advance inp n (events f up) p) (λ g. h (ap (λ (u : Counters). u.stop) same ∙ g)))
           ∙ sym (advance-append inp n (events f up) ds p)
           ∙ ap (λ (l : List Event). advance inp n l p) (sym e)
           ∙ sym (emit-advance inp (events_of t) (state p b)))
@@ -89,7 +87,7 @@ stopped-within {inp} {t} {p} {b} {r} {c} f ys up ds w x h e =
 -- A TURN ---------------------------------------------------------------------------------------------------------------
 
 -- f was read; then it is preceded, Q is read, and the new node is completed.
-module _ {inp : Input} {d k : ℕ} {Q : Part Rule} {p₀ : Parser} {b₀ : List ℕ} {p : Parser} {b : List ℕ} {s : Started} {c : List ℕ} {q : Parser} {e : List ℕ} {r : Completed} {g : List ℕ}
+module _ {inp : Input} {d k : ℕ} {Q : Part Rule} {p₀ : Counters} {b₀ : List ℕ} {p : Counters} {b : List ℕ} {s : Started} {c : List ℕ} {q : Counters} {e : List ℕ} {r : Completed} {g : List ℕ}
     (f : Forest) (ys : List ℕ) (w : Whole f) (m : ℕ) where
   pub turned : Became inp (done f ys) p₀ b₀ p b → (p.stop ≡ 0 → m ≡ p.used - behind_start f) → Starts p b s c (precede m) → Read inp d Q s.p c q e →
       Completes s.m k q e r g → (n : ℕ) → length (rest inp p) < n → Became inp (wrapped k f (read grammar n d Q ys)) p₀ b₀ r.p g

@@ -10,7 +10,7 @@ use lib.ListN.{length, drop}
 use lib.Seq.{sets, sets-eq}
 use Rattle.predictive.specs.Events.{Event, token}
 use Rattle.aadl.specs.Encoding.{event_word, words_for, cut_to_word}
-use Rattle.parser.specs.declared.Parser.{Parser}
+use Rattle.parser.specs.Counters.{Counters}
 use Rattle.parser.specs.Input.{Input}
 use Rattle.parser.specs.Buffer.{room, put}
 use Rattle.parser.specs.State.{State, state, push, enter, emit}
@@ -48,7 +48,7 @@ module _ (inp : Input) where
       emit-words es (enter inp e s) h ∙ rw (enter-words e s g, (enter-went inp e s g).used, next, add-one i) refl
 
   -- From the first place on.
-  pub written : (es : List Event) (p : Parser) (b : List ℕ) → p.used ≡ 0 → Goes (emit inp es (state p b)) →
+  pub written : (es : List Event) (p : Counters) (b : List ℕ) → p.used ≡ 0 → Goes (emit inp es (state p b)) →
       (emit inp es (state p b)).words ≡ words-along es (state p b) ++ drop (length (words-along es (state p b))) b
   written es p b z h =
       let ws = words-along es (state p b) in

@@ -3,7 +3,7 @@
 use Rattle.std.specs.Prelude.{ℕ, ◌+◌, ◌*◌, ◌/◌, List, length, get_or, set}
 use Rattle.predictive.specs.Events.{Event, start}
 use Rattle.aadl.specs.Encoding.{event_word, words_for, cut_to_word, room as room_in}
-use Rattle.parser.specs.declared.Parser.{Parser}
+use Rattle.parser.specs.Counters.{Counters}
 
 -- for how many events they have room
 unfoldable pub room : List ℕ → ℕ
@@ -11,7 +11,7 @@ room b = room_in (length b)
 
 -- The words after the event e, written by the parser p: the event's own, and the number of the token where p stands, which is the next
 -- untaken one, or the end. The token words may be any, so that the number is cut to a word; a text has fewer tokens.
-unfoldable pub put : Parser → Event → List ℕ → List ℕ
+unfoldable pub put : Counters → Event → List ℕ → List ℕ
 put p e b = set (set b (words_for p.used) (event_word e)) (words_for p.used + 1) (cut_to_word p.at)
 
 -- "Completing writes the node kind into the Start", here into that of event number m ..

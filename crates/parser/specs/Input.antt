@@ -4,8 +4,7 @@ use Rattle.aadl.specs.declared.Token.{Token}
 use Rattle.aadl.specs.Bytes.{peek}
 use Rattle.aadl.specs.Tokens.{token, kind_in, length_in}
 use Rattle.aadl.specs.Symbols.{is_trivia, symbol_of, Placed, placed}
-use Rattle.parser.specs.declared.Parser.{Parser}
-use Rattle.parser.specs.declared.Place.{Place}
+use Rattle.parser.specs.Counters.{Counters, Place}
 
 pub record Input : Type 0 where
   pub text : List ℕ
@@ -29,7 +28,7 @@ standing text b [] = []
 standing text b (w ∷ ws) = symbol_of (kind_in w) (peek text b) ∷ without_trivia text (b + length_in w) ws
 
 -- What remains where a parser stands.
-unfoldable pub rest : Input → Parser → List ℕ
+unfoldable pub rest : Input → Counters → List ℕ
 unfolding standing
 rest inp p = standing inp.text p.byte (drop p.at inp.words)
 
@@ -54,7 +53,7 @@ after_one text i b [] = record { at = i; byte = b }
 after_one text i b (w ∷ ws) = skip text (suc i) (past text b w) ws
 
 -- The place of the token after the one where a parser stands.
-abbrev pub next : Input → Parser → Place
+abbrev pub next : Input → Counters → Place
 next inp p = after_one inp.text p.at p.byte (drop p.at inp.words)
 
 -- The first of some symbols; the end's number, which is no symbol, where there is none.
@@ -66,12 +65,12 @@ ahead [] = END
 ahead (x ∷ xs) = x
 
 -- The symbol n further on from where a parser stands; the end's once it stopped.
-unfoldable pub nth : Input → Parser → ℕ → ℕ
+unfoldable pub nth : Input → Counters → ℕ → ℕ
 unfolding rest
 nth inp p n = cond (eqb p.stop 0) (ahead (drop n (rest inp p))) END
 
 -- where the first token stands that is no trivia
-unfoldable pub new : Input → (left : ℕ) → Parser
+unfoldable pub new : Input → (left : ℕ) → Counters
 unfolding skip
 new inp l =
     let s = skip inp.text 0 0 inp.words in

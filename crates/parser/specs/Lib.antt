@@ -1,4 +1,6 @@
+pub mod Counters
 pub mod Input
 pub mod Buffer
 pub mod State
 pub mod Reads
+pub mod Parsers

@@ -3,33 +3,32 @@ use Rattle.std.specs.Prelude.{ℕ, ◌+◌, ◌-◌, max, min, cond, List, [], �
 use Rattle.predictive.specs.Forest.{message, refusal}
 use Rattle.predictive.specs.Events.{Event, start, token, finish, error}
 use Rattle.aadl.specs.Limits.{most_events}
-use Rattle.parser.specs.declared.Parser.{Parser}
-use Rattle.parser.specs.declared.Place.{Place}
+use Rattle.parser.specs.Counters.{Counters, Place}
 use Rattle.parser.specs.Input.{Input, next}
 use Rattle.parser.specs.Buffer.{room, put, named, linked}
 
 pub record State : Type 0 where
-  pub parser : Parser
+  pub parser : Counters
   pub words : List ℕ
 
-abbrev pub state : Parser → List ℕ → State
+abbrev pub state : Counters → List ℕ → State
 state p b = record { parser = p; words = b }
 
 -- A parser that stopped does nothing more.
 unfoldable pub going : (State → State) → State → State
 going f s = cond (eqb s.parser.stop 0) (f s) s
 
-abbrev pub with_left : ℕ → Parser → Parser
+abbrev pub with_left : ℕ → Counters → Counters
 with_left l p = record { at = p.at; byte = p.byte; taken = p.taken; used = p.used; left = l; stop = p.stop }
 
-abbrev pub with_stop : ℕ → Parser → Parser
+abbrev pub with_stop : ℕ → Counters → Counters
 with_stop n p = record { at = p.at; byte = p.byte; taken = p.taken; used = p.used; left = p.left; stop = n }
 
-abbrev pub with_used : ℕ → Parser → Parser
+abbrev pub with_used : ℕ → Counters → Counters
 with_used n p = record { at = p.at; byte = p.byte; taken = p.taken; used = n; left = p.left; stop = p.stop }
 
 -- one event more
-abbrev pub one_used : Parser → Parser
+abbrev pub one_used : Counters → Counters
 one_used p = with_used (p.used + 1) p
 
 -- A refusal stops the parser by its number; 0 is no refusal's, so that it always stops.
@@ -56,7 +55,7 @@ abbrev pub one_more : ℕ → ℕ
 one_more n = max n (min (n + 1) most_events)
 
 -- The token where the parser stands is passed.
-abbrev pub moved_on : Place → (taken : ℕ) → Parser → Parser
+abbrev pub moved_on : Place → (taken : ℕ) → Counters → Counters
 moved_on at n p = record { at = at.at; byte = at.byte; taken = n; used = p.used; left = p.left; stop = p.stop }
 
 abbrev pub passed : Input → State → State

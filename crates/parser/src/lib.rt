@@ -1,5 +1,5 @@
-// Events, markers and the parser's counters: what every reader is written in. A text and its token words are lent, event words are
-// lent to be written, and the parser's counters go by value. Once the parser stopped, every function here leaves all as it is.
+// Events, markers and the parser: what every reader is written in. A parser goes over a text's token words and writes to the event words that it is
+// lent. Once it stopped, every function here leaves all as it is.
 
 #![tactic(auto)]
 
@@ -9,14 +9,14 @@ ghost use Rattle.predictive.specs.Grammar.{Choice, one, two, tok, opt, any};
 ghost use Rattle.predictive.specs.Reader.{expected, unmet};
 ghost use Rattle.predictive.specs.Events as E;
 ghost use Rattle.aadl.specs.Symbols as Sym;
-ghost use Rattle.aadl.specs.Encoding.{event_word, words_for};
+ghost use Rattle.aadl.specs.Encoding.{event_word, words_for, room as room_in};
 ghost use Rattle.aadl.specs.Section.{property_name};
 ghost use Rattle.parser.specs.Input as I;
-ghost use Rattle.parser.specs.Input.{input};
 ghost use Rattle.parser.specs.Buffer as B;
 ghost use Rattle.parser.specs.State as S;
-ghost use Rattle.parser.specs.Reads.{Ran, Read, Starts, Completes, stands, heads_of, ReadsPart};
+ghost use Rattle.parser.specs.Reads.{heads_of};
 
+use aadl::Refusal;
 use classes::peek;
 use codec::{
     EVENT_WORDS, error_event, finish_event, kind_in, length_in, second_word, start_word,
@@ -29,26 +29,32 @@ pub const C_STYLE: u32 = 258;
 
 pub const END: u32 = 257;
 
-// The refusal of an opener too many.
-pub const TOO_DEEP: usize = 6;
+// The refusals by which a parser stops: no room for an event, and, by its readers, an opener too many.
+const NO_ROOM: usize = Refusal::NoEventWord as usize;
 
-// Where reading stands: the number of the next token's word and where that token starts in the text, the non-trivia tokens taken,
-// the events pushed, the openers left, and the number of the refusal that stopped reading, or 0.
+pub const TOO_DEEP: usize = Refusal::TooDeep as usize;
+
+// A text and its token words, and a place among these: the number of the next token's word, and where that token starts in the text.
 #[derive(Clone, Copy)]
-pub struct Parser {
+pub struct Tokens<'a> {
+    pub text: &'a [u8],
+    pub words: &'a [u32],
     pub at: usize,
     pub byte: usize,
+}
+
+// A parser: the tokens from where reading stands, the lent event words, how many non-trivia tokens are taken, events pushed and openers left, and the
+// number of the refusal that stopped reading, or 0. That is a number, since `stop` takes each from 1 on. And for how many events the lent words have room.
+#[derive(Drop)]
+pub struct Parser<'a> {
+    pub tokens: Tokens<'a>,
+    pub events: &'a mut [u32],
     pub taken: usize,
     pub used: usize,
     pub left: usize,
     pub stop: usize,
-}
-
-// A token's word and its start in the text.
-#[derive(Clone, Copy)]
-pub struct Place {
-    pub at: usize,
-    pub byte: usize,
+    pub room: usize,
+    ghost holds_so_many: { room ≡ room_in (length events.now) },
 }
 
 // The Start of a node that is open.
@@ -58,31 +64,6 @@ pub struct Marker(usize);
 // The Start of a node that is complete.
 #[derive(Clone, Copy)]
 pub struct CompletedMarker(usize);
-
-#[derive(Clone, Copy)]
-pub struct Started {
-    pub p: Parser,
-    pub m: Marker,
-}
-
-#[derive(Clone, Copy)]
-pub struct Completed {
-    pub p: Parser,
-    pub m: CompletedMarker,
-}
-
-// An operand's node, or none where there was no operand.
-#[derive(Clone, Copy)]
-pub enum Lhs {
-    Node(CompletedMarker),
-    Nothing,
-}
-
-#[derive(Clone, Copy)]
-pub struct Operand {
-    pub p: Parser,
-    pub lhs: Lhs,
-}
 
 // TOKENS
 
@@ -100,197 +81,119 @@ fn past(text: &[u8], byte: usize, w: u32) -> usize
     n
 }
 
-// The first place from a place on whose token is no trivia.
-fn skip(text: &[u8], toks: &[u32], at: usize, byte: usize) -> Place
-    ensures { result ≡ I.skip text.now at byte (drop at toks.now) }
+fn trivia_at(words: &[u32], at: usize) -> bool
+    ensures { result ≡ I.trivia_ahead (drop at words.now) }
 {
-    let mut i = at;
-    let mut b = byte;
-    while i < toks.len() {
-        let w = toks[i];
-        if !is_trivia(kind_in(w)) {
-            return Place { at: i, byte: b };
-        }
-        b = past(text, b, w);
-        i += 1;
-    }
-    Place { at: i, byte: b }
-}
-
-fn trivia_at(toks: &[u32], at: usize) -> bool
-    ensures { result ≡ I.trivia_ahead (drop at toks.now) }
-{
-    if at < toks.len() {
-        return is_trivia(kind_in(toks[at]));
+    if at < words.len() {
+        return is_trivia(kind_in(words[at]));
     }
     false
 }
 
-// The place of the token after the one at a place.
-fn next(text: &[u8], toks: &[u32], at: usize, byte: usize) -> Place
-    ensures { result ≡ I.after_one text.now at byte (drop at toks.now) }
+// The kind of a symbol's token.
+fn shown(symbol: u32) -> u32
+    ensures { result ≡ Sym.shown symbol }
 {
-    let mut i = at;
-    let mut b = byte;
-    while i < toks.len() {
-        b = past(text, b, toks[i]);
-        i += 1;
-        if !trivia_at(toks, i) {
-            return Place { at: i, byte: b };
-        }
+    if symbol == C_STYLE {
+        return ERROR;
     }
-    Place { at: i, byte: b }
+    symbol
 }
 
-// The symbol at a place, or the end's.
-fn symbol_at(text: &[u8], toks: &[u32], at: usize, byte: usize) -> u32
-    ensures { result ≡ I.ahead (I.standing text.now byte (drop at toks.now)) }
-{
-    if at < toks.len() {
-        let kind = kind_in(toks[at]);
-        if kind == ERROR {
-            if peek(text, byte) == b'0' {
-                return C_STYLE;
+impl<'a> Tokens<'a> {
+    ghost use Rattle.parser.specs.Parsers.{source, cursor, moved_to, skipped, next_place, first_of};
+
+    // At the first token that is no trivia.
+    pub fn new(text: &'a [u8], words: &'a [u32]) -> Tokens<'a>
+        ensures { result ≡ first_of text.entry words.entry }
+    {
+        let all = Tokens {
+            text,
+            words,
+            at: 0,
+            byte: 0,
+        };
+        all.skip()
+    }
+
+    // From here on at the first token that is no trivia. By hand, as in `next`: a fold would carry both places and stop at
+    // the first other token, and that is no plainer.
+    fn skip(self) -> Tokens<'a>
+        ensures { result ≡ moved_to (skipped self.entry) self.entry }
+    {
+        let mut at = self.at;
+        let mut byte = self.byte;
+        while at < self.words.len() {
+            let w = self.words[at];
+            if !is_trivia(kind_in(w)) {
+                return Tokens { at, byte, ..self };
+            }
+            byte = past(self.text, byte, w);
+            at += 1;
+        }
+        Tokens { at, byte, ..self }
+    }
+
+    // Behind the token where these stand, and the trivia behind it.
+    #[inline(always)]
+    fn next(self) -> Tokens<'a>
+        ensures { result ≡ moved_to (next_place self.entry) self.entry }
+    {
+        let mut at = self.at;
+        let mut byte = self.byte;
+        while at < self.words.len() {
+            byte = past(self.text, byte, self.words[at]);
+            at += 1;
+            if !trivia_at(self.words, at) {
+                return Tokens { at, byte, ..self };
             }
         }
-        return kind;
+        Tokens { at, byte, ..self }
     }
-    END
-}
 
-// A parser at the first token that is no trivia.
-pub fn new(text: &[u8], toks: &[u32], left: usize) -> Parser
-    ensures { result ≡ I.new (input text.now toks.now) left }
-{
-    let s = skip(text, toks, 0, 0);
-    Parser {
-        at: s.at,
-        byte: s.byte,
-        taken: 0,
-        used: 0,
-        left,
-        stop: 0,
+    // Passes the token where these stand.
+    pub fn pass(&mut self)
+        ensures { self.new ≡ moved_to (next_place self.old) self.old }
+    {
+        *self = self.next();
     }
-}
 
-pub fn current(text: &[u8], toks: &[u32], p: Parser) -> u32
-    ensures { result ≡ I.nth (input text.now toks.now) p 0 }
-{
-    if p.stop != 0 {
-        return END;
+    // The symbol where these stand, or the end's.
+    #[inline(always)]
+    pub fn current(self) -> u32
+        ensures { result ≡ I.nth (source self.entry) (cursor self.entry) 0 }
+    {
+        if self.at < self.words.len() {
+            let kind = kind_in(self.words[self.at]);
+            if kind == ERROR {
+                if peek(self.text, self.byte) == b'0' {
+                    return C_STYLE;
+                }
+            }
+            return kind;
+        }
+        END
     }
-    symbol_at(text, toks, p.at, p.byte)
-}
 
-pub fn nth(text: &[u8], toks: &[u32], p: Parser, n: usize) -> u32
-    ensures { result ≡ I.nth (input text.now toks.now) p n }
-{
-    if p.stop != 0 {
-        return END;
+    // The symbol n tokens further on, or the end's.
+    pub fn nth(self, n: usize) -> u32
+        ensures { result ≡ I.nth (source self.entry) (cursor self.entry) n }
+    {
+        let mut t = self;
+        for _ in 0..n {
+            t.pass();
+        }
+        t.current()
     }
-    let mut at = p.at;
-    let mut byte = p.byte;
-    let mut i = 0;
-    while i < n {
-        let s = next(text, toks, at, byte);
-        at = s.at;
-        byte = s.byte;
-        i += 1;
-    }
-    symbol_at(text, toks, at, byte)
-}
 
-// The kind of the token where the parser stands, or the end's symbol: a C-style literal shows ERROR, so the text is not asked.
-pub fn kind_at(toks: &[u32], p: Parser) -> u32
-    ensures { (text : List ℕ) → result ≡ Sym.shown (I.nth (input text toks.now) p 0) }
-{
-    if p.stop != 0 {
-        return END;
-    }
-    let at = p.at;
-    if at < toks.len() {
-        return kind_in(toks[at]);
-    }
-    END
-}
-
-pub fn at(text: &[u8], toks: &[u32], p: Parser, kind: u32) -> bool
-    requires { kind < 256 }
-    ensures { result ≡ stands (input text.now toks.now) (one kind ∷ []) p }
-{
-    current(text, toks, p) == kind
-}
-
-// Two kinds in a row stand.
-pub fn at_pair(text: &[u8], toks: &[u32], p: Parser, kind: u32, next: u32) -> bool
-    requires { (kind < 256) × (next < 256) }
-    ensures { result ≡ stands (input text.now toks.now) (two kind next ∷ []) p }
-{
-    if at(text, toks, p, kind) {
-        return nth(text, toks, p, 1) == next;
-    }
-    false
-}
-
-// A name that may begin an association: an identifier, or a keyword before `:`.
-pub fn at_name(text: &[u8], toks: &[u32], p: Parser) -> bool
-    ensures { (m : ℕ) → result ≡ stands (input text.now toks.now) (heads_of (property_name m)) p }
-{
-    let kind = current(text, toks, p);
-    if kind == IDENT {
-        return true;
-    }
-    if is_keyword(kind) {
-        return nth(text, toks, p, 1) == COLON;
-    }
-    false
-}
-
-// FIELDS
-//
-// A parser with another field: written out here and nowhere else, for a copy that is then changed is slower.
-
-pub fn with_left(p: Parser, left: usize) -> Parser
-    ensures { result ≡ S.with_left left p }
-{
-    Parser {
-        at: p.at,
-        byte: p.byte,
-        taken: p.taken,
-        used: p.used,
-        left,
-        stop: p.stop,
-    }
-}
-
-fn with_used(p: Parser, used: usize) -> Parser
-    ensures { result ≡ S.with_used used p }
-{
-    Parser {
-        at: p.at,
-        byte: p.byte,
-        taken: p.taken,
-        used,
-        left: p.left,
-        stop: p.stop,
-    }
-}
-
-// Stops the parser, by the number of the refusal.
-pub fn stop(p: Parser, number: usize) -> Parser
-    requires { 1 ≤ number }
-    ensures { (b : List ℕ) → Ran (S.halt number) p b result b }
-{
-    if p.stop != 0 {
-        return p;
-    }
-    Parser {
-        at: p.at,
-        byte: p.byte,
-        taken: p.taken,
-        used: p.used,
-        left: p.left,
-        stop: number,
+    // The kind of the token where these stand, or the end's symbol: a C-style literal shows ERROR, so the text is not asked.
+    pub fn kind(self) -> u32
+        ensures { result ≡ Sym.shown (I.nth (source self.entry) (cursor self.entry) 0) }
+    {
+        if self.at < self.words.len() {
+            return kind_in(self.words[self.at]);
+        }
+        END
     }
 }
 
@@ -299,12 +202,18 @@ pub fn stop(p: Parser, number: usize) -> Parser
 // The most events that are pushed.
 const MOST: usize = 32768;
 
-// For how many events so many lent words have room: two words for each.
-fn room(events: &[u32]) -> usize
-    ensures { result ≡ B.room events.now }
+// One more is taken, up to as many as there can be events.
+fn one_more(n: usize) -> usize
+    ensures { result ≡ S.one_more n }
 {
-    let lent = events.len() / EVENT_WORDS;
-    if lent < MOST { lent } else { MOST }
+    if n < MOST { n + 1 } else { n }
+}
+
+// For how many events words have room: two words for each.
+fn room(events: &[u32]) -> usize
+    ensures { result ≡ room_in (length events.now) }
+{
+    (events.len() / EVENT_WORDS).min(MOST)
 }
 
 // Whether the event with a number has a first word: as many have one as half of the words, rounded up.
@@ -331,207 +240,273 @@ fn link_start(events: &mut [u32], place: usize, distance: usize)
 {
     if has_first(events, place) {
         let at = place * EVENT_WORDS;
-        let w = events[at];
-        events[at] = with_parent(w, distance);
+        events[at] = with_parent(events[at], distance);
     }
 }
 
-// Pushes the event of a word: that word, and the number of the next untaken token.
-fn push_event(events: &mut [u32], p: Parser, w: u32) -> Parser
-    ensures { (e : E.Event) → w ≡ event_word e → Ran (S.push e) p events.old result events.new }
-{
-    if p.stop != 0 {
-        return p;
+// PARSERS
+//
+// What is done for each token or event is put into its caller: the call would cost as much.
+
+impl<'a> Parser<'a> {
+    ghost use Rattle.parser.specs.Parsers.{source, counters, Began, stand, Steps, Opens, ReadsPart, ReadsWithin};
+
+    // At the first token that is no trivia.
+    pub fn new(text: &'a [u8], words: &'a [u32], events: &'a mut [u32], left: usize) -> Parser<'a>
+        ensures { Began text.entry words.entry events.entry left result }
+    {
+        let room = room(events);
+        Parser {
+            tokens: Tokens::new(text, words),
+            events,
+            taken: 0,
+            used: 0,
+            left,
+            stop: 0,
+            room,
+        }
     }
-    let used = p.used;
-    if used < room(events) {
+
+    // The symbol where the parser stands; the end's once it stopped.
+    #[inline(always)]
+    pub fn current(&self) -> u32
+        ensures { result ≡ I.nth (source self.now.tokens) (counters self.now) 0 }
+    {
+        if self.stop != 0 {
+            return END;
+        }
+        self.tokens.current()
+    }
+
+    pub fn nth(&self, n: usize) -> u32
+        ensures { result ≡ I.nth (source self.now.tokens) (counters self.now) n }
+    {
+        if self.stop != 0 {
+            return END;
+        }
+        self.tokens.nth(n)
+    }
+
+    // The kind of the token where the parser stands, or the end's symbol.
+    pub fn kind(&self) -> u32
+        ensures { result ≡ Sym.shown (I.nth (source self.now.tokens) (counters self.now) 0) }
+    {
+        if self.stop != 0 {
+            return END;
+        }
+        self.tokens.kind()
+    }
+
+    #[inline(always)]
+    pub fn at(&self, kind: u32) -> bool
+        requires { kind < 256 }
+        ensures { result ≡ stand (one kind ∷ []) self.now }
+    {
+        self.current() == kind
+    }
+
+    // One of two kinds stands.
+    #[inline(always)]
+    pub fn at_either(&self, kind: u32, other: u32) -> bool
+        requires { (kind < 256) × (other < 256) }
+        ensures { result ≡ stand (one kind ∷ one other ∷ []) self.now }
+    {
+        let symbol = self.current();
+        (symbol == kind) | (symbol == other)
+    }
+
+    // Two kinds in a row stand.
+    pub fn at_pair(&self, kind: u32, next: u32) -> bool
+        requires { (kind < 256) × (next < 256) }
+        ensures { result ≡ stand (two kind next ∷ []) self.now }
+    {
+        if self.at(kind) {
+            return self.nth(1) == next;
+        }
+        false
+    }
+
+    // A name that may begin an association: an identifier, or a keyword before `:`.
+    pub fn at_name(&self) -> bool
+        ensures { (m : ℕ) → result ≡ stand (heads_of (property_name m)) self.now }
+    {
+        let kind = self.current();
+        if kind == IDENT {
+            return true;
+        }
+        if is_keyword(kind) {
+            return self.nth(1) == COLON;
+        }
+        false
+    }
+
+    // Stops the parser, by the number of the refusal.
+    pub fn stop(&mut self, number: usize)
+        requires { 1 ≤ number }
+        ensures { Steps (λ _. S.halt number) self.old self.new }
+    {
+        if self.stop == 0 {
+            self.stop = number;
+        }
+    }
+
+    // Writes the event of a word, for which there is room: that word, and the number of the next untaken token.
+    #[inline(always)]
+    fn append(&mut self, w: u32)
+        requires { self.old.used < B.room self.old.events.now }
+        ensures { (e : E.Event) → w ≡ event_word e → Steps (λ _. S.appended e) self.old self.new }
+    {
+        let used = self.used;
         let at = used * EVENT_WORDS;
+        let second = second_word(self.tokens.at);
+        let events = &mut *self.events;
         events[at] = w;
-        events[at + 1] = second_word(p.at);
-        return with_used(p, used + 1);
+        events[at + 1] = second;
+        self.used = used + 1;
     }
-    stop(p, 5)
-}
 
-// EVENTS
+    // Pushes the event of a word, or stops for lack of room.
+    #[inline(always)]
+    fn push_or_stop(&mut self, w: u32)
+        ensures { (e : E.Event) → w ≡ event_word e → Steps (λ _. S.push_or_stop e) self.old self.new }
+    {
+        if self.used < self.room {
+            self.append(w);
+        } else {
+            self.stop = NO_ROOM;
+        }
+    }
 
-pub fn error(events: &mut [u32], p: Parser, m: u32) -> Parser
-    requires { m < 512 }
-    ensures { Ran (S.push (E.error (message m))) p events.old result events.new }
-{
-    push_event(events, p, error_event(m))
-}
+    // Pushes the event of a word, unless the parser stopped.
+    #[inline(always)]
+    fn push(&mut self, w: u32)
+        ensures { (e : E.Event) → w ≡ event_word e → Steps (λ _. S.push e) self.old self.new }
+    {
+        if self.stop == 0 {
+            self.push_or_stop(w);
+        }
+    }
 
-pub fn start(events: &mut [u32], p: Parser) -> Started
-    ensures { Starts p events.old result events.new (S.push (E.start 0 0)) }
-{
-    let m = Marker(p.used);
-    let q = push_event(events, p, start_word(0));
-    Started { p: q, m }
+    pub fn error(&mut self, m: u32)
+        requires { m < 512 }
+        ensures { Steps (λ _. S.push (E.error (message m))) self.old self.new }
+    {
+        self.push(error_event(m));
+    }
+
+    #[inline(always)]
+    pub fn start(&mut self) -> Marker
+        ensures { Opens (S.push (E.start 0 0)) self.old result self.new }
+    {
+        let m = Marker(self.used);
+        self.push(start_word(0));
+        m
+    }
+
+    // Takes the token where the parser stands as one of a kind: its event is pushed, and it is passed. The next token is looked for before the event
+    // is written, since for all that the compiler knows that writes over the token words.
+    #[inline(always)]
+    fn take(&mut self, kind: u32)
+        requires { kind < 512 }
+        ensures { Steps (λ source. S.enter source (E.token kind)) self.old self.new }
+    {
+        if self.stop != 0 {
+            return;
+        }
+        if self.used < self.room {
+            let next = self.tokens.next();
+            let taken = one_more(self.taken);
+            self.append(token_event(kind));
+            self.tokens.at = next.at;
+            self.tokens.byte = next.byte;
+            self.taken = taken;
+        } else {
+            self.stop = NO_ROOM;
+        }
+    }
+
+    #[inline(always)]
+    pub fn bump_any(&mut self)
+        ensures { ReadsPart any self.old self.new }
+    {
+        let symbol = self.current();
+        if symbol != END {
+            self.take(shown(symbol));
+        }
+    }
+
+    #[inline(always)]
+    pub fn eat(&mut self, kind: u32)
+        requires { kind < 256 }
+        ensures { (d : ℕ) (c : Choice) → ReadsWithin d (opt c (tok unmet (kind ∷ []))) self.old self.new }
+    {
+        if self.at(kind) {
+            self.take(kind);
+        }
+    }
+
+    // The parser after the token of a kind where it stands, or after a message.
+    #[inline(always)]
+    fn token_or_error(&mut self, kind: u32, m: u32)
+        requires { (kind < 256) × (m < 512) }
+        ensures { ReadsPart (tok m (kind ∷ [])) self.old self.new }
+    {
+        if self.at(kind) {
+            self.take(kind);
+        } else {
+            self.error(m);
+        }
+    }
+
+    // .. or after the message that it is missing.
+    #[inline(always)]
+    pub fn expect(&mut self, kind: u32)
+        requires { kind < 256 }
+        ensures { ReadsPart (tok (expected kind) (kind ∷ [])) self.old self.new }
+    {
+        self.token_or_error(kind, 256 + kind);
+    }
+
+    // The Rust panics where the token does not stand. Here that is message 0, which no reading of a section has (theorem
+    // `never-message_0`, aadl `NeverMissed`).
+    #[inline(always)]
+    pub fn bump(&mut self, kind: u32)
+        requires { kind < 256 }
+        ensures { ReadsPart (tok unmet (kind ∷ [])) self.old self.new }
+    {
+        self.token_or_error(kind, 0);
+    }
 }
 
 // MARKERS
 
-pub fn complete(events: &mut [u32], p: Parser, m: Marker, kind: u32) -> Completed
-    requires { kind < 256 }
-    ensures { Completes m kind p events.old result events.new }
-{
-    let i = m.0;
-    if p.stop != 0 {
-        return Completed {
-            p,
-            m: CompletedMarker(i),
-        };
-    }
-    name_start(events, i, kind);
-    let q = push_event(events, p, finish_event());
-    Completed {
-        p: q,
-        m: CompletedMarker(i),
-    }
-}
+impl Marker {
+    ghost use Rattle.parser.specs.Parsers.{Closes};
 
-pub fn precede(events: &mut [u32], p: Parser, m: CompletedMarker) -> Started
-    ensures { Starts p events.old result events.new (S.precede m.0) }
-{
-    let s = start(events, p);
-    let q = s.p;
-    let place = p.used;
-    let i = m.0;
-    if q.stop != 0 {
-        return s;
-    }
-    if i < place {
-        link_start(events, i, place - i);
-    }
-    s
-}
-
-// TAKING TOKENS
-
-// The kind of a symbol's token.
-fn shown(symbol: u32) -> u32
-    ensures { result ≡ Sym.shown symbol }
-{
-    if symbol == C_STYLE {
-        return ERROR;
-    }
-    symbol
-}
-
-// The parser after the token where it stands.
-pub fn pass(text: &[u8], toks: &[u32], p: Parser) -> Parser
-    ensures { (b : List ℕ) → Ran (S.pass (input text.now toks.now)) p b result b }
-{
-    if p.stop != 0 {
-        return p;
-    }
-    let s = next(text, toks, p.at, p.byte);
-    let mut taken = p.taken;
-    if taken < MOST {
-        taken += 1;
-    }
-    Parser {
-        at: s.at,
-        byte: s.byte,
-        taken,
-        used: p.used,
-        left: p.left,
-        stop: p.stop,
-    }
-}
-
-pub fn bump_any(text: &[u8], toks: &[u32], events: &mut [u32], p: Parser) -> Parser
-    ensures { ReadsPart text toks events any p result }
-{
-    let symbol = current(text, toks, p);
-    if symbol == END {
-        return p;
-    }
-    let q = push_event(events, p, token_event(shown(symbol)));
-    pass(text, toks, q)
-}
-
-pub fn eat(text: &[u8], toks: &[u32], events: &mut [u32], p: Parser, kind: u32) -> Parser
-    requires { kind < 256 }
-    ensures { (d : ℕ) (c : Choice) → Read (input text.now toks.now) d (opt c (tok unmet (kind ∷ []))) p events.old result events.new }
-{
-    if at(text, toks, p, kind) {
-        return bump_any(text, toks, events, p);
-    }
-    p
-}
-
-// The parser after the token of a kind where it stands, or after a message.
-fn token_or_error(
-    text: &[u8],
-    toks: &[u32],
-    events: &mut [u32],
-    p: Parser,
-    kind: u32,
-    m: u32,
-) -> Parser
-    requires { (kind < 256) × (m < 512) }
-    ensures { ReadsPart text toks events (tok m (kind ∷ [])) p result }
-{
-    if at(text, toks, p, kind) {
-        return bump_any(text, toks, events, p);
-    }
-    error(events, p, m)
-}
-
-// .. or after the message that it is missing.
-fn expected(text: &[u8], toks: &[u32], events: &mut [u32], p: Parser, kind: u32) -> Parser
-    requires { kind < 256 }
-    ensures { ReadsPart text toks events (tok (expected kind) (kind ∷ [])) p result }
-{
-    token_or_error(text, toks, events, p, kind, 256 + kind)
-}
-
-// The Rust panics where the token does not stand. Here that is message 0, which no reading of a section has (theorem
-// `never-message_0`, aadl `NeverMissed`).
-fn bumped(text: &[u8], toks: &[u32], events: &mut [u32], p: Parser, kind: u32) -> Parser
-    requires { kind < 256 }
-    ensures { ReadsPart text toks events (tok unmet (kind ∷ [])) p result }
-{
-    token_or_error(text, toks, events, p, kind, 0)
-}
-
-// The parser is lent, and moves on: each copies it whole and stores what the function by value makes of it.
-impl Parser {
-    pub fn expect(&mut self, text: &[u8], toks: &[u32], events: &mut [u32], kind: u32)
+    #[inline(always)]
+    pub fn complete(self, p: &mut Parser<'_>, kind: u32) -> CompletedMarker
         requires { kind < 256 }
-        ensures { ReadsPart text toks events (tok (expected kind) (kind ∷ [])) self.old self.new }
+        ensures { Closes self kind p.old result p.new }
     {
-        let next = expected(text, toks, events, *self, kind);
-        *self = next;
-    }
-
-    pub fn bump(&mut self, text: &[u8], toks: &[u32], events: &mut [u32], kind: u32)
-        requires { kind < 256 }
-        ensures { ReadsPart text toks events (tok unmet (kind ∷ [])) self.old self.new }
-    {
-        let next = bumped(text, toks, events, *self, kind);
-        *self = next;
+        if p.stop == 0 {
+            name_start(p.events, self.0, kind);
+            p.push_or_stop(finish_event());
+        }
+        CompletedMarker(self.0)
     }
 }
 
-// FOR THE READERS, BY VALUE
+impl CompletedMarker {
+    ghost use Rattle.parser.specs.Parsers.{Opens};
 
-pub fn expect(text: &[u8], toks: &[u32], events: &mut [u32], p: Parser, kind: u32) -> Parser
-    requires { kind < 256 }
-    ensures { ReadsPart text toks events (tok (expected kind) (kind ∷ [])) p result }
-{
-    let mut q = p;
-    q.expect(text, toks, events, kind);
-    q
-}
-
-pub fn bump(text: &[u8], toks: &[u32], events: &mut [u32], p: Parser, kind: u32) -> Parser
-    requires { kind < 256 }
-    ensures { ReadsPart text toks events (tok unmet (kind ∷ [])) p result }
-{
-    let mut q = p;
-    q.bump(text, toks, events, kind);
-    q
+    #[inline(always)]
+    pub fn precede(self, p: &mut Parser<'_>) -> Marker
+        ensures { Opens (S.precede self.0) p.old result p.new }
+    {
+        let m = p.start();
+        if p.stop == 0 && self.0 < m.0 {
+            link_start(p.events, self.0, m.0 - self.0);
+        }
+        m
+    }
 }

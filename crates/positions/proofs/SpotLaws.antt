@@ -7,7 +7,7 @@ use mathlib.Core.Path.{◌≡◌, refl, sym, ap, ◌∙◌}
 use mathlib.Core.Bool.{Bool, true, false, cond}
 use mathlib.Core.List.{List, [], ◌∷◌, ◌++◌}
 use lib.ListN.{length, take, drop, get_or, length-take}
-use lib.Seq.{drop-cons, drop-drop, take-add}
+use lib.Seq.{drop-drop, take-add, take_all, take-suc}
 use lib.Dec.{eqb, leb}
 use borrow.Author.Tests.{leb-true, leb-false}
 use Rattle.aadl.specs.Listing.{line_after, column}
@@ -42,11 +42,6 @@ line-capped l m (b ∷ bs) e = line-capped (cond (eqb b 10) (suc l) l) (cond (eq
 
 -- BYTES BETWEEN PLACES -------------------------------------------------------------------------------------------------
 
-between_step : (text : List ℕ) (i j : ℕ) → i < j → j ≤ length text → between text i j ≡ get_or text i 0 ∷ between text (i + 1) j
-between_step text i j h l =
-    let q : j - i ≡ suc (j - (i + 1)) = omega arith in
-    rw (q, drop-cons text i 0 (omega arith), add-one i) refl
-
 between_none : (text : List ℕ) (i j : ℕ) → j ≤ i → between text i j ≡ []
 between_none text i j h =
     let z : j - i ≡ 0 = omega arith in
@@ -61,48 +56,49 @@ between-append text i j k h g =
 
 -- SPOTS ----------------------------------------------------------------------------------------------------------------
 
--- Where a walk to a place stands: what is left of it gives the line and the column of the whole.
-pub record Walking (text : List ℕ) (end from line₀ column₀ at line column : ℕ) : Type 0 where
-  pub lines : capped (line_after line (between text at end)) ≡ capped (line_after line₀ (between text from end))
-  pub columns : capped (column_after column (between text at end)) ≡ capped (column_after column₀ (between text from end))
-  line_small : line ≤ 4294967295
-  column-small : column ≤ 4294967295
-  pub places : max at end ≡ max from end
+-- Behind the first bytes: the line and the column that a walk over them gives.
+pub record Walking (bs : List ℕ) (line₀ column₀ i line column : ℕ) : Type 0 where
+  pub lines : line ≡ capped (line_after line₀ (take i bs))
+  pub columns : column ≡ capped (column_after column₀ (take i bs))
 
-pub walking_starts : (text : List ℕ) (end from line column : ℕ) → line ≤ 4294967295 → column ≤ 4294967295 → Walking text end from line column from line column
-walking_starts text end from line column h g = record { lines = refl; columns = refl; line_small = h; column-small = g; places = refl }
+pub walking_starts : (bs : List ℕ) (line column : ℕ) → line ≤ 4294967295 → column ≤ 4294967295 → Walking bs line column 0 line column
+walking_starts bs line column h g = record { lines = omega arith; columns = omega arith }
 
-module _ {text : List ℕ} {end from line₀ column₀ at line column : ℕ} (w : Walking text end from line₀ column₀ at line column) where
-  pub walking_more : (l c : ℕ) → at < end → end ≤ length text → l ≡ capped (line_after line (get_or text at 0 ∷ [])) →
-      c ≡ capped (column_behind column (get_or text at 0)) →
-      Walking text end from line₀ column₀ (at + 1) l c
-  walking_more l c h g p q =
-      let b = get_or text at 0 in
-      let rest = between text (at + 1) end in
-      let s = between_step text at end h g in
+module _ {bs : List ℕ} {line₀ column₀ i line column : ℕ} (w : Walking bs line₀ column₀ i line column) where
+  pub walking_more : (l c : ℕ) → i < length bs → l ≡ capped (line_after line (get_or bs i 0 ∷ [])) → c ≡ capped (column_behind column (get_or bs i 0)) →
+      Walking bs line₀ column₀ (i + 1) l c
+  walking_more l c h p q =
+      let b = get_or bs i 0 in
+      let front = take i bs in
+      let more : front ++ (b ∷ []) ≡ take (i + 1) bs = sym (ap (λ (k : ℕ). take k bs) (add-one i) ∙ take-suc bs i 0 h) in
       record {
         lines =
-            line-capped l (line_after line (b ∷ [])) rest (omega (arith, p))
-            ∙ sym (ap (λ (bs : List ℕ). capped (line_after line bs)) s) ∙ w.lines;
+            p ∙ line-capped line (line_after line₀ front) (b ∷ []) (omega (arith, w.lines))
+            ∙ ap capped (sym (line-after_append line₀ front (b ∷ [])) ∙ ap (line_after line₀) more);
         columns =
-            column-capped c (column_behind column b) rest (omega (arith, q))
-            ∙ sym (ap (λ (bs : List ℕ). capped (column_after column bs)) s) ∙ w.columns;
-        line_small = omega (arith, p);
-        column-small = omega (arith, q);
-        places = omega (arith, w.places);
+            q ∙ column-capped column (column_after column₀ front) (b ∷ []) (omega (arith, w.columns))
+            ∙ ap capped (sym (column_after-append column₀ front (b ∷ [])) ∙ ap (column_after column₀) more);
       }
 
-  pub walking_ends : (s : Spot) (p : ℕ) → s ≡ record { place = from; line = line₀; column = column₀ } → end ≡ min p (length text) → end ≤ at →
-      record { place = at; line = line; column = column } ≡ spot_after text s p
-  unfolding spot_after
-  walking_ends s p e f h =
-      let z = between_none text at end h in
-      let a : at ≡ max from end = omega (arith, w.places) in
-      let l : line ≡ capped (line_after line₀ (between text from end)) = omega (arith, rw z at w.lines, w.line_small) in
-      let c : column ≡ capped (column_after column₀ (between text from end)) = omega (arith, rw z at w.columns, w.column-small) in
-      (λ i. record { place = a i; line = l i; column = c i })
-      ∙ ap (λ (j : ℕ). record { place = max from j; line = capped (line_after line₀ (between text from j)); column = capped (column_after column₀ (between text from j)) }) f
-      ∙ ap (λ (t : Spot). spot_after text t p) (sym e)
+-- Behind all bytes between a spot and a later place stands the place's spot.
+pub walking_ends : (text : List ℕ) (s : Spot) (p : ℕ) {end i line column : ℕ} → Walking (between text s.place end) s.line s.column i line column →
+    end ≡ min p (length text) → s.place < end → length (between text s.place end) ≤ i → record { place = end; line = line; column = column } ≡ spot_after text s p
+unfolding spot_after
+walking_ends text s p {end} {i} w e h g =
+    let bs = take_all i (between text s.place end) g in
+    let m : end ≡ max s.place end = omega arith in
+    (λ t. record { place = m t; line = (w.lines ∙ ap (λ (l : List ℕ). capped (line_after s.line l)) bs) t; column = (w.columns ∙ ap (λ (l : List ℕ). capped (column_after s.column l)) bs) t })
+    ∙ ap (λ (j : ℕ). record { place = max s.place j; line = capped (line_after s.line (between text s.place j)); column = capped (column_after s.column (between text s.place j)) }) e
+
+-- At no later place, the spot is the same.
+pub walking_none : (text : List ℕ) (s : Spot) (p : ℕ) → s.line ≤ 4294967295 → s.column ≤ 4294967295 → min p (length text) ≤ s.place → s ≡ spot_after text s p
+unfolding spot_after
+walking_none text s p h g e =
+    let z = between_none text s.place (min p (length text)) e in
+    let m : s.place ≡ max s.place (min p (length text)) = omega arith in
+    let l : s.line ≡ capped s.line = omega arith in
+    let c : s.column ≡ capped s.column = omega arith in
+    rw z (λ t. record { place = m t; line = l t; column = c t })
 
 -- Walking in steps is walking at once.
 module _ (text : List ℕ) (i j k : ℕ) (h : j ≤ k) where

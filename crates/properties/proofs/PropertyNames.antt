@@ -14,16 +14,15 @@ use Rattle.aadl.specs.Symbols.{shown}
 use Rattle.aadl.specs.Section.{keywords, grammar, property_name}
 use Rattle.aadl.proofs.Asides.{name-stands}
 use Rattle.parser.specs.declared.Parser.{Parser}
-use Rattle.parser.specs.Input.{Input, rest}
+use Rattle.parser.specs.Input.{rest}
 use Rattle.parser.specs.State.{push}
-use Rattle.parser.specs.Reads.{stands, heads_of, Read, Ran}
-use Rattle.parser.proofs.Join.{r-same, r-seq, stands_at}
-use Rattle.parser.proofs.Taking.{r-message}
+use Rattle.parser.specs.Reads.{heads_of}
+use Rattle.parser.specs.Parsers.{source, counters, stand, Steps, ReadsWithin}
+use Rattle.parser.proofs.Join.{stands_at}
+use Rattle.parser.proofs.Parsers.{r-same, r-seq, r-message}
 
 -- Two words in a row are one after the other.
-pub r-two : {inp : Input} {d k l : ℕ} {p : Parser} {b : List ℕ} {q : Parser} {c : List ℕ} {r : Parser} {e : List ℕ} →
-    Read inp d (tok unmet (k ∷ [])) p b q c →
-    Read inp d (tok unmet (l ∷ [])) q c r e → Read inp d (pair k l) p b r e
+pub r-two : {d k l : ℕ} {p q r : Parser} → ReadsWithin d (tok unmet (k ∷ [])) p q → ReadsWithin d (tok unmet (l ∷ [])) q r → ReadsWithin d (pair k l) p r
 unfolding read step take_two
 r-two x y = r-same (λ n h. refl) (r-seq x y)
 
@@ -41,10 +40,14 @@ name-no n d m (x ∷ xs) e = go (has keywords x && is 6 xs) refl
     go true q = never (sym (or_r (eqb x 33) (at (twos keywords 6) (x ∷ xs)) e) ∙ at-twos keywords 6 x xs q)
     go false q = rw (or_l (eqb x 33) (at (twos keywords 6) (x ∷ xs)) e, q) refl
 
-module _ {inp : Input} {d m : ℕ} {p : Parser} {b : List ℕ} {r : Parser} {c : List ℕ} where
-  pub r-name_yes : stands inp (heads_of (property_name m)) p ≡ true → Read inp d any p b r c → Read inp d (property_name m) p b r c
+module _ {d m : ℕ} {p r : Parser} where
+  pub r-name_yes : stand (heads_of (property_name m)) p ≡ true → ReadsWithin d any p r → ReadsWithin d (property_name m) p r
   unfolding read step
-  r-name_yes e x = r-same (λ n h. name-yes n d m (rest inp p) (stands_at inp (heads_of (property_name m)) p e h)) x
+  r-name_yes e x =
+      let inp = source p.tokens in
+      r-same (λ n h. name-yes n d m (rest inp (counters p)) (stands_at inp (heads_of (property_name m)) (counters p) e h)) x
 
-  pub r-name_no : stands inp (heads_of (property_name m)) p ≡ false → Ran (push (error (message m))) p b r c → Read inp d (property_name m) p b r c
-  r-name_no e x = r-message (λ n h. name-no n d m (rest inp p) (stands_at inp (heads_of (property_name m)) p e h)) x
+  pub r-name_no : stand (heads_of (property_name m)) p ≡ false → Steps (λ _. push (error (message m))) p r → ReadsWithin d (property_name m) p r
+  r-name_no e x =
+      let inp = source p.tokens in
+      r-message (λ n h. name-no n d m (rest inp (counters p)) (stands_at inp (heads_of (property_name m)) (counters p) e h)) x

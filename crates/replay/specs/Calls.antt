@@ -1,5 +1,5 @@
 -- What a record's call answers, and the lines that are written for it. Assumes nothing.
-use Rattle.std.specs.Prelude.{ℕ, ◌+◌, ◌<◌, ◌≡◌, Bool, true, false, cond, List, [], length, replicate, eqb}
+use Rattle.std.specs.Prelude.{ℕ, ◌+◌, ◌<◌, ◌≡◌, Bool, true, false, cond, List, [], length, replicate, is_none}
 use Rattle.std.proofs.lemmas.List.Edits.{sets}
 use Rattle.aadl.specs.Slices.{Slice, MutSlice, before, after}
 use Rattle.aadl.specs.Limits.{base}
@@ -11,9 +11,11 @@ use Rattle.aadl.specs.declared.Answer.{Answer}
 use Rattle.aadl.specs.Words.{bytes}
 use Rattle.aadl.specs.NumberParts.{number_parts, part_numbers}
 use Rattle.replay_lines.specs.Records.{old_word, line, record_lines, tree_lines, value_lines}
+use Rattle.writing.specs.declared.Writer.{Writer}
+use Rattle.replay.specs.declared.Request.{Request}
+use Rattle.replay.specs.declared.Request.TheVariants.{Plain, Tree, Parts, Value}
 use Rattle.replay.specs.declared.Head.{Head}
-use Rattle.replay.specs.declared.Step.{Step}
-use Rattle.replay.specs.Heads.{tree, parts, value}
+use Rattle.replay.specs.declared.Lent.{Lent}
 
 -- The call of a plain record was made: the tokens-only call, which leaves the event words as they are, or the section call.
 pub record MakesCall (only : Bool) (text : Slice) (tokens events : MutSlice) (a : Answer) : Type 0 where
@@ -57,14 +59,20 @@ value_called text m n i =
     let a = r.answer in
     value_lines r (left_in a (token_words text) (replicate m old_word)) (left_in a (event_words base text) (replicate n old_word))
 
--- The lines of the call that a record asks for.
-unfoldable pub made : Head → (text : List ℕ) → (tokens events records : ℕ) → List ℕ
-made h text m n k =
-    cond (eqb h.call tree) (tree_called text m n k)
-    (cond (eqb h.call parts) (parts_called text m h.own)
-    (cond (eqb h.call value) (value_called text m n h.own)
-    (called h.only text m n)))
+-- The lines of the call that a record asks for. Where no event words are lent, a plain call is the tokens-only one.
+abbrev pub made_by : Request → (only : Bool) → (text : List ℕ) → (tokens events records : ℕ) → List ℕ
+made_by Plain only text m n k = called only text m n
+made_by (Tree _) only text m n k = tree_called text m n k
+made_by (Parts i) only text m n k = parts_called text m i
+made_by (Value i) only text m n k = value_called text m n i
+
+abbrev pub made : Head → (text : List ℕ) → (tokens events records : ℕ) → List ℕ
+made h text m n k = made_by h.call (is_none h.events) text m n k
+
+-- The same of what is lent to a call.
+abbrev pub made_of : Head → Lent → List ℕ
+made_of h lent = made h lent.text.now (length lent.tokens.now) (length lent.events.now) (length lent.records.now)
 
 -- Where another record may follow, a record's lines stand whole in the bytes that wait, from a place on, and what stood before is kept.
-pub record StandsWhole (lines : List ℕ) (out : MutSlice) (at : ℕ) (r : Step) : Type 0 where
-  pub whole : r.on ≡ true → (r.at ≡ at + length lines) × (r.at < length (before out)) × (after out ≡ sets (before out) at lines)
+pub record StandsWhole (lines : List ℕ) (w : Writer) (follows : Bool) (after : Writer) : Type 0 where
+  pub whole : follows ≡ true → (after.at ≡ w.at + length lines) × (after.at < length w.out.now) × (after.out.now ≡ sets w.out.now w.at lines)

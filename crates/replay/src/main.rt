@@ -5,18 +5,18 @@
 
 #![tactic(auto)]
 
-ghost use Rattle.std.specs.Prelude.{◌≤◌, ◌<◌, ◌≡◌, false, length, replicate};
+ghost use Rattle.std.specs.Prelude.{◌≤◌, ◌≡◌, false, length, replicate};
 ghost use Rattle.aadl.specs.Words.{bytes};
 ghost use Rattle.writing.specs.Written.{Writes};
-ghost use Rattle.replay.specs.Calls.{MakesCall, called, tree_called, parts_called, value_called, made, StandsWhole};
-ghost use Rattle.replay.specs.Heads.{number_at, head_from, extended, known, record_head, lent_records};
+ghost use Rattle.replay.specs.Calls.{MakesCall, called, tree_called, parts_called, value_called, made_of, StandsWhole};
+ghost use Rattle.replay.specs.Heads.{number_at, request_of, head_from, extended, record_head, lent_records};
 
 use aadl::Answer;
 use replay_lines::{fill, put_parts, put_record, put_tree, put_valued};
 use std::io;
 use std::io::Read;
 use streams::{read_full, tell, write_out};
-use writing::put_text;
+use writing::Writer;
 
 // How many bytes and token words the longest record has; how many event words, two for an event; and how many record words, four for a record.
 const MOST: usize = 40000;
@@ -35,8 +35,7 @@ const LINES: usize = 1882192;
 // In a record, in the place of a number: a record of the extended form, the largest settings, no event words.
 const NONE: u32 = 4294967295;
 
-// The calls of a record: the section call or the tokens-only call, the tree call, the tokens-only call with the parts of one of its tokens, and the value
-// call.
+// The numbers of the calls.
 const PLAIN: u32 = 0;
 
 const TREE: u32 = 1;
@@ -45,30 +44,32 @@ const PARTS: u32 = 5;
 
 const VALUE: u32 = 6;
 
-// The numbers with which a record begins: the call, the text's bytes, the lent words, and whether the record says that no event words are lent, which are
-// 0 then. The last number is the call's own: the tree call's lent record words, or the number of a token or of an association.
+// The call of a record: the section call or the tokens-only call; the tree call, with the lent record words; the tokens-only call with the parts of the
+// token of a number; the value call, for the association of a number.
+#[derive(Clone, Copy)]
+enum Request {
+    Plain,
+    Tree(usize),
+    Parts(usize),
+    Value(usize),
+}
+
+// What stands before a record's text: the call, the text's bytes, and the lent words. Where no event words are lent, a plain call is the tokens-only one.
 #[derive(Clone, Copy)]
 struct Head {
-    call: u32,
+    call: Request,
     text: usize,
     tokens: usize,
-    events: usize,
-    only: bool,
-    own: usize,
+    events: Option<usize>,
 }
 
-// How many bytes of the output wait to be written, and whether another record may follow.
-#[derive(Clone, Copy)]
-struct Step {
-    at: usize,
-    on: bool,
-}
-
-// A cast as a call: a cast of an element asks its caller to show that the element fits.
-fn wide(b: u8) -> u32
-    ensures { (result ≡ b) × (result < 256) }
-{
-    b as u32
+// What is lent to a call.
+#[derive(Drop)]
+struct Lent<'a> {
+    text: &'a mut [u8],
+    tokens: &'a mut [u32],
+    events: &'a mut [u32],
+    records: &'a mut [u32],
 }
 
 // Four bytes from a place on as a number, the lowest first.
@@ -76,7 +77,7 @@ fn number_at(b: &[u8; 16], i: usize) -> u32
     requires { i ≤ 12 }
     ensures { result ≡ number_at b.now i }
 {
-    wide(b[i]) + wide(b[i + 1]) * 256 + wide(b[i + 2]) * 65536 + wide(b[i + 3]) * 16777216
+    u32::from_le_bytes([b[i], b[i + 1], b[i + 2], b[i + 3]])
 }
 
 fn answer(src: &[u8], tokens: &mut [u32], events: &mut [u32], only: bool) -> Answer
@@ -89,20 +90,13 @@ fn answer(src: &[u8], tokens: &mut [u32], events: &mut [u32], only: bool) -> Ans
 }
 
 // Makes a record's call on words that are filled anew, and puts its lines.
-fn call(
-    src: &[u8],
-    tokens: &mut [u32],
-    events: &mut [u32],
-    only: bool,
-    out: &mut [u8],
-    at: usize,
-) -> usize
-    ensures { Writes out at (called only src.now (length tokens.old) (length events.old)) result }
+fn call(src: &[u8], tokens: &mut [u32], events: &mut [u32], only: bool, w: &mut Writer)
+    ensures { Writes w.old (called only src.now (length tokens.old) (length events.old)) w.new }
 {
     fill(tokens);
     fill(events);
     let a = answer(src, tokens, events, only);
-    put_record(out, at, a, tokens, events)
+    put_record(w, a, tokens, events);
 }
 
 // Makes a record's tree call on words that are filled anew, and puts its lines.
@@ -111,81 +105,81 @@ fn call_tree(
     tokens: &mut [u32],
     events: &mut [u32],
     records: &mut [u32],
-    out: &mut [u8],
-    at: usize,
-) -> usize
-    ensures { Writes out at (tree_called src.now (length tokens.old) (length events.old) (length records.old)) result }
+    w: &mut Writer,
+)
+    ensures { Writes w.old (tree_called src.now (length tokens.old) (length events.old) (length records.old)) w.new }
 {
     fill(tokens);
     fill(events);
     fill(records);
     let a = tree::property_tree(src, tokens, events, records);
-    put_tree(out, at, a, tokens, events, records)
+    put_tree(w, a, tokens, events, records);
 }
 
 // Makes a record's tokens-only call on words that are filled anew, and puts the parts of one of its tokens.
-fn call_parts(src: &[u8], tokens: &mut [u32], number: usize, out: &mut [u8], at: usize) -> usize
-    ensures { Writes out at (parts_called src.now (length tokens.old) number) result }
+fn call_parts(src: &[u8], tokens: &mut [u32], number: usize, w: &mut Writer)
+    ensures { Writes w.old (parts_called src.now (length tokens.old) number) w.new }
 {
     fill(tokens);
     lexer::tokenize(src, tokens);
-    put_parts(out, at, lexer::number_parts(src, tokens, number))
+    put_parts(w, lexer::number_parts(src, tokens, number));
 }
 
 // Makes a record's value call on words that are filled anew, and puts its lines.
-fn call_value(
-    src: &[u8],
-    tokens: &mut [u32],
-    events: &mut [u32],
-    number: usize,
-    out: &mut [u8],
-    at: usize,
-) -> usize
-    ensures { Writes out at (value_called src.now (length tokens.old) (length events.old) number) result }
+fn call_value(src: &[u8], tokens: &mut [u32], events: &mut [u32], number: usize, w: &mut Writer)
+    ensures { Writes w.old (value_called src.now (length tokens.old) (length events.old) number) w.new }
 {
     fill(tokens);
     fill(events);
     let a = value::association_value(src, tokens, events, number);
-    put_valued(out, at, a, tokens, events)
+    put_valued(w, a, tokens, events);
 }
 
 // Makes the call that a record asks for.
-fn make(
-    h: Head,
-    src: &[u8],
-    tokens: &mut [u32],
-    events: &mut [u32],
-    records: &mut [u32],
-    out: &mut [u8],
-    at: usize,
-) -> usize
-    ensures { Writes out at (made h src.now (length tokens.old) (length events.old) (length records.old)) result }
+fn make(h: Head, lent: Lent, w: &mut Writer)
+    ensures { Writes w.old (made_of h lent.entry) w.new }
 {
-    if h.call == TREE {
-        return call_tree(src, tokens, events, records, out, at);
+    let Lent {
+        text,
+        tokens,
+        events,
+        records,
+    } = lent;
+    match h.call {
+        Request::Plain => call(text, tokens, events, h.events.is_none(), w),
+        Request::Tree(_) => call_tree(text, tokens, events, records, w),
+        Request::Parts(number) => call_parts(text, tokens, number, w),
+        Request::Value(number) => call_value(text, tokens, events, number, w),
     }
-    if h.call == PARTS {
-        return call_parts(src, tokens, h.own, out, at);
-    }
-    if h.call == VALUE {
-        return call_value(src, tokens, events, h.own, out, at);
-    }
-    call(src, tokens, events, h.only, out, at)
 }
 
-// The text and the lent words, which stand in a row in both forms of a record, with a call and its own number.
-fn head_from(b: &[u8; 16], call: u32, own: usize) -> Head
-    ensures { result ≡ head_from b.now call own }
+// The call with a number, and with a number of its own.
+fn request_of(number: u32, own: usize) -> Option<Request>
+    ensures { result ≡ request_of number own }
+{
+    match number {
+        PLAIN if own == 0 => Some(Request::Plain),
+        TREE => Some(Request::Tree(own)),
+        PARTS => Some(Request::Parts(own)),
+        VALUE => Some(Request::Value(own)),
+        _ => None,
+    }
+}
+
+// The text and the lent words, which stand in a row in both forms of a record, with a call.
+fn head_from(b: &[u8; 16], call: Request) -> Head
+    ensures { result ≡ head_from b.now call }
 {
     let events = number_at(b, 8);
-    let only = events == NONE;
     Head {
         call,
         text: number_at(b, 0) as usize,
         tokens: number_at(b, 4) as usize,
-        events: if only { 0 } else { events as usize },
-        only,
-        own,
+        events: if events == NONE {
+            None
+        } else {
+            Some(events as usize)
+        },
     }
 }
 
@@ -195,213 +189,156 @@ fn is_extended(front: &[u8; 16]) -> bool
     number_at(front, 0) == NONE
 }
 
-// Whether a record of the extended form is one that there is.
-fn is_known(front: &[u8; 16], back: &[u8; 16]) -> bool
-    ensures { result ≡ known front.now back.now }
-{
-    let call = number_at(front, 4);
-    let own = number_at(back, 12);
-    (number_at(front, 8) == NONE)
-        & ((call == TREE) | (call == PARTS) | (call == VALUE) | ((call == PLAIN) & (own == 0)))
-}
-
-fn head_of(front: &[u8; 16], back: &[u8; 16]) -> Head
+// A record's head, if it is one that there is.
+fn head_of(front: &[u8; 16], back: &[u8; 16]) -> Option<Head>
     ensures { result ≡ record_head front.now back.now }
 {
-    if is_extended(front) {
-        return head_from(back, number_at(front, 4), number_at(back, 12) as usize);
+    if !is_extended(front) {
+        return Some(head_from(front, Request::Plain));
     }
-    head_from(front, PLAIN, 0)
+    if number_at(front, 8) != NONE {
+        return None;
+    }
+    let call = request_of(number_at(front, 4), number_at(back, 12) as usize)?;
+    Some(head_from(back, call))
 }
 
 // The line for a record that ends early, asks for too much or for a call that there is none of. Nothing more is read after it.
-fn bad(out: &mut [u8], at: usize) -> Step
-    ensures { Writes out at (bytes "bad record\n") result.at × (result.on ≡ false) }
+fn bad(w: &mut Writer) -> bool
+    ensures line { Writes w.old (bytes "bad record\n") w.new }
+    ensures last { result ≡ false }
 {
-    let next = put_text(out, at, b"bad record\n");
-    Step {
-        at: next,
-        on: false,
-    }
+    w.put_text(b"bad record\n");
+    false
 }
 
 // A read failed: that is told, and nothing more is written.
-fn failed<R: Eprint>(rt: &R, why: &Option<io::Error>) -> Step
-    ensures { (result.at ≡ 0) × (result.on ≡ false) }
+fn failed<R: Eprint>(rt: &R, why: io::Error, w: &mut Writer) -> bool
+    ensures nothing { w.new.at ≡ 0 }
+    ensures last { result ≡ false }
 {
-    tell(rt, "standard input", why);
-    Step { at: 0, on: false }
+    tell(rt, "standard input", &Some(why));
+    w.at = 0;
+    false
 }
 
 // How many record words a record asks for.
 fn lent_records(h: Head) -> usize
     ensures { result ≡ lent_records h }
 {
-    if h.call == TREE {
-        return h.own;
+    match h.call {
+        Request::Tree(records) => records,
+        _ => 0,
     }
-    0
 }
 
 // Makes the call that a record asks for. Another record may follow only where its lines stand whole.
-fn answered(
-    h: Head,
-    src: &[u8],
-    tokens: &mut [u32],
-    events: &mut [u32],
-    records: &mut [u32],
-    out: &mut [u8],
-    at: usize,
-) -> Step
-    ensures { StandsWhole (made h src.now (length tokens.old) (length events.old) (length records.old)) out at result }
+fn answered(h: Head, lent: Lent, w: &mut Writer) -> bool
+    ensures { StandsWhole (made_of h lent.entry) w.old result w.new }
 {
-    let next = make(h, src, tokens, events, records, out, at);
-    if out.len() <= next {
-        return bad(out, at);
+    let at = w.at;
+    make(h, lent, w);
+    if w.room() == 0 {
+        w.at = at;
+        return bad(w);
     }
-    Step { at: next, on: true }
+    true
 }
 
-// Lends what a record asks for, if there is as much.
+// Lends what a record asks for, if there is as much. The slices come one by one: parts of what stands in a struct behind `&mut` get no generated proof.
 fn lend(
-    text: &[u8],
+    h: Head,
+    text: &mut [u8],
     tokens: &mut [u32],
     events: &mut [u32],
     records: &mut [u32],
-    h: Head,
-    out: &mut [u8],
-    at: usize,
-) -> Step {
+    w: &mut Writer,
+) -> bool {
     let n = h.text;
     let t = h.tokens;
-    let e = h.events;
+    let e = h.events.unwrap_or(0);
     let m = lent_records(h);
     if text.len() < n || tokens.len() < t || events.len() < e || records.len() < m {
-        return bad(out, at);
+        return bad(w);
     }
-    answered(
-        h,
-        &text[0..n],
-        &mut tokens[0..t],
-        &mut events[0..e],
-        &mut records[0..m],
-        out,
-        at,
-    )
+    let lent = Lent {
+        text: &mut text[..n],
+        tokens: &mut tokens[..t],
+        events: &mut events[..e],
+        records: &mut records[..m],
+    };
+    answered(h, lent, w)
 }
 
 // Reads a record's text and answers the record.
 fn answer_record<R: Eprint, F: Read>(
     rt: &R,
     from: &mut F,
-    text: &mut [u8],
-    tokens: &mut [u32],
-    events: &mut [u32],
-    records: &mut [u32],
+    all: &mut Lent,
     h: Head,
-    out: &mut [u8],
-    at: usize,
-) -> Step {
+    w: &mut Writer,
+) -> bool {
     let n = h.text;
-    if text.len() < n {
-        return bad(out, at);
+    if all.text.len() < n {
+        return bad(w);
     }
-    let mut why = None;
-    let got = read_full(from, &mut text[0..n], &mut why);
-    if got.failed {
-        return failed(rt, &why);
+    match read_full(from, &mut all.text[..n]) {
+        Ok(count) if count < n => bad(w),
+        Ok(_) => lend(h, all.text, all.tokens, all.events, all.records, w),
+        Err(why) => failed(rt, why, w),
     }
-    if got.count < n {
-        return bad(out, at);
-    }
-    lend(text, tokens, events, records, h, out, at)
 }
 
-// Reads a record and answers it. Of the numbers before the text, one of the extended form has sixteen bytes behind the first twelve.
-fn turn<R: Eprint, F: Read>(
-    rt: &R,
-    from: &mut F,
-    text: &mut [u8],
-    tokens: &mut [u32],
-    events: &mut [u32],
-    records: &mut [u32],
-    out: &mut [u8],
-    at: usize,
-) -> Step {
+// Reads a record and answers it, and says whether another may follow. Of the numbers before the text, one of the extended form has sixteen bytes behind
+// the first twelve.
+fn turn<R: Eprint, F: Read>(rt: &R, from: &mut F, all: &mut Lent, w: &mut Writer) -> bool {
     let mut front = [0u8; 16];
     let mut back = [0u8; 16];
-    let mut why = None;
-    let got = read_full(from, &mut front[0..12], &mut why);
-    if got.failed {
-        return failed(rt, &why);
-    }
-    if got.count == 0 {
-        return Step { at, on: false };
-    }
-    if got.count < 12 {
-        return bad(out, at);
+    match read_full(from, &mut front[..12]) {
+        Ok(0) => return false,
+        Ok(count) if count < 12 => return bad(w),
+        Ok(_) => {}
+        Err(why) => return failed(rt, why, w),
     }
     if is_extended(&front) {
-        let more = read_full(from, &mut back, &mut why);
-        if more.failed {
-            return failed(rt, &why);
-        }
-        if more.count < 16 || !is_known(&front, &back) {
-            return bad(out, at);
+        match read_full(from, &mut back) {
+            Ok(count) if count < 16 => return bad(w),
+            Ok(_) => {}
+            Err(why) => return failed(rt, why, w),
         }
     }
-    answer_record(
-        rt,
-        from,
-        text,
-        tokens,
-        events,
-        records,
-        head_of(&front, &back),
-        out,
-        at,
-    )
+    match head_of(&front, &back) {
+        Some(h) => answer_record(rt, from, all, h, w),
+        None => bad(w),
+    }
 }
 
 // Writes out the bytes that wait, and says whether that went well.
-fn flush<R: Print + Eprint>(rt: &R, out: &[u8], at: usize) -> bool {
-    if out.len() < at {
-        return false;
+fn flush<R: Print + Eprint>(rt: &R, w: &Writer) -> bool {
+    match w.out.get(..w.at) {
+        Some(bytes) => write_out(rt, bytes),
+        None => false,
     }
-    write_out(rt, &out[0..at])
 }
 
 // Sees to room for a record's lines.
-fn make_room<R: Print + Eprint>(rt: &R, out: &[u8], at: usize) -> Step {
-    if at < OUT - LINES {
-        return Step { at, on: true };
+fn make_room<R: Print + Eprint>(rt: &R, w: &mut Writer) -> bool {
+    if w.at < OUT - LINES {
+        return true;
     }
-    let on = flush(rt, out, at);
-    Step { at: 0, on }
+    let on = flush(rt, w);
+    w.at = 0;
+    on
 }
 
-// A proved loop has to end, and nothing says that the input does. So the loop counts its turns down, from a number that no run
-// uses up.
-fn turns<R: Print + Eprint, F: Read>(
-    rt: &R,
-    from: &mut F,
-    text: &mut [u8],
-    tokens: &mut [u32],
-    events: &mut [u32],
-    records: &mut [u32],
-    out: &mut [u8],
-) -> usize {
-    let mut left = u64::MAX;
-    let mut at = 0;
-    let mut on = true;
-    while left > 0 && on {
-        let t = turn(rt, from, text, tokens, events, records, out, at);
-        let m = make_room(rt, out, t.at);
-        at = m.at;
-        on = t.on && m.on;
-        left -= 1;
+// A proved loop has to end, and nothing says that the input does. So it has a number of turns, one that no run uses up.
+fn turns<R: Print + Eprint, F: Read>(rt: &R, from: &mut F, all: &mut Lent, w: &mut Writer) {
+    for _ in 0..u64::MAX {
+        let on = turn(rt, from, all, w);
+        if !make_room(rt, w) || !on {
+            break;
+        }
     }
-    at
 }
 
 // Zeros, for the bytes that wait. The `ensures` gives the length too, which lending them asks for.
@@ -417,14 +354,13 @@ fn main(rt: HostRuntime) {
     let mut events = [0u32; EVENTS];
     let mut records = [0u32; RECORDS];
     let mut out = waiting();
-    let at = turns(
-        &rt,
-        &mut rt.stdin(),
-        &mut text,
-        &mut tokens,
-        &mut events,
-        &mut records,
-        &mut out,
-    );
-    flush(&rt, &out, at);
+    let mut all = Lent {
+        text: &mut text,
+        tokens: &mut tokens,
+        events: &mut events,
+        records: &mut records,
+    };
+    let mut w = Writer::new(&mut out, 0);
+    turns(&rt, &mut rt.stdin(), &mut all, &mut w);
+    flush(&rt, &w);
 }

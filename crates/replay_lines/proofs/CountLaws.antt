@@ -1,40 +1,16 @@
--- Words that hold a value, counted one by one: those counted and those among the words that are left make up the whole. And which words are counted,
--- and written. Assumes nothing.
-use Prim.Native.Nat.{ℕ, suc, ◌+◌, ◌-◌, ◌*◌, ◌≤◌, ◌<◌, min}
-use native.Mathlib.Numerals.{add-one}
+-- Which words are counted, and written. Assumes nothing.
+use Prim.Native.Nat.{ℕ, ◌-◌, ◌*◌, min}
 use native.Mathlib.Omega.{arith}
 use mathlib.Core.Path.{◌≡◌, refl, sym, ap, ◌∙◌}
 use mathlib.Core.Bool.{cond}
 use mathlib.Core.List.{List, [], ◌∷◌, ◌++◌}
-use lib.ListN.{length, get_or, take, drop, length-drop, drop_of_length-le}
-use lib.Seq.{drop-cons, take_all}
+use lib.ListN.{length, take, drop, length-drop}
+use lib.Seq.{take_all}
 use lib.Dec.{eqb}
 use borrow.Author.Tests.{eq-eqb, ne_eqb}
 use Rattle.writing.proofs.LeastLaws.{take_within, drop_within}
 use Rattle.aadl.specs.Words.{bytes}
 use Rattle.replay_lines.specs.Records.{old_word, line, count, rest, more_lines}
-
-pub record Counted (v : ℕ) (ws : List ℕ) (n i : ℕ) : Type 0 where
-  pub whole : n + count v (drop i ws) ≡ count v ws
-  pub few : n ≤ i
-  pub within : i ≤ length ws
-
-module _ {v : ℕ} {ws : List ℕ} {n i : ℕ} (c : Counted v ws n i) (h : i < length ws) where
-  here : count v (drop i ws) ≡ cond (eqb (get_or ws i 0) v) (suc (count v (drop (i + 1) ws))) (count v (drop (i + 1) ws))
-  here = rw (add-one i) (ap (count v) (drop-cons ws i 0 h))
-
-  pub counted-one : (m : ℕ) → m ≡ n + 1 → get_or ws i 0 ≡ v → Counted v ws m (i + 1)
-  counted-one m q e =
-      let k : count v (drop i ws) ≡ suc (count v (drop (i + 1) ws)) = rw (eq-eqb (get_or ws i 0) v e) at here in
-      record { whole = omega (arith, k, c.whole); few = omega (arith, c.few); within = omega arith }
-
-  pub counted_none : (m : ℕ) → m ≡ n → (get_or ws i 0 ≡ v → ⊥) → Counted v ws m (i + 1)
-  counted_none m q f =
-      let k : count v (drop i ws) ≡ count v (drop (i + 1) ws) = rw (ne_eqb (get_or ws i 0) v f) at here in
-      record { whole = omega (arith, k, c.whole); few = omega (arith, c.few); within = omega arith }
-
-pub counted-all : {v : ℕ} {ws : List ℕ} {n i : ℕ} → Counted v ws n i → length ws ≤ i → n ≡ count v ws
-counted-all {v} {ws} {n} {i} c h = omega (arith, c.whole, ap (count v) (drop_of_length-le ws {i = i} h))
 
 -- WHAT IS LEFT ---------------------------------------------------------------------------------------------------------
 

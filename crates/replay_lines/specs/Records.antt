@@ -1,6 +1,6 @@
 -- The lines of a record, as tools/README.md has them: the answer, the words that it counts, and how many of the other words keep what they held; then the
 -- same of the words that a call writes besides tokens and events. Assumes nothing.
-use Rattle.std.specs.Prelude.{ℕ, suc, ◌*◌, cond, List, [], ◌∷◌, ◌++◌, take, drop, eqb}
+use Rattle.std.specs.Prelude.{ℕ, ◌*◌, cond, List, [], ◌∷◌, ◌++◌, take, drop, eqb, count_by}
 use Rattle.aadl.specs.declared.Answer.{Answer}
 use Rattle.aadl.specs.declared.TreeAnswer.{TreeAnswer}
 use Rattle.aadl.specs.declared.ValueAnswer.{ValueAnswer}
@@ -24,8 +24,7 @@ line name ns = (name ++ spaced ns) ++ (10 ∷ [])
 
 -- How many words hold a value.
 abbrev pub count : (value : ℕ) → List ℕ → ℕ
-count v [] = 0
-count v (w ∷ ws) = cond (eqb w v) (suc (count v ws)) (count v ws)
+count v ws = count_by (λ w. eqb w v) ws
 
 -- After a call that is not refused: how many words past the used ones keep what they held. After a refusal: how many are 0.
 unfoldable pub rest : (number used : ℕ) → List ℕ → ℕ

@@ -3,3 +3,4 @@ pub mod StringLaws
 pub mod NumberCases
 pub mod WordLaws
 pub mod Marks
+pub mod LongerMarks

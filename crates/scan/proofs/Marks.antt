@@ -2,7 +2,7 @@
 -- by the second (`longer-from`). The longest mark depends on the first three bytes only, read as 0 past the end (`longest-of_window`).
 -- Each follows from a law of `stand` for one mark, by induction on the list of marks. Assumes nothing.
 use mathlib.Core.Path.{◌≡◌, refl, sym, ap, ◌∙◌}
-use mathlib.Core.Bool.{Bool, true, false, not, ◌&&◌, ◌||◌, cond, and-true, and-false, and_assoc}
+use mathlib.Core.Bool.{Bool, true, false, not, ◌&&◌, ◌||◌, cond, and-false}
 use mathlib.Core.List.{List, [], ◌∷◌}
 use Prim.Native.Nat.{ℕ, zero, suc, ◌%◌, ◌<◌, max}
 use Prim.Native.String.{String}
@@ -11,7 +11,7 @@ use native.Mathlib.Omega.{arith}
 use lib.ListN.{length, get_or, drop}
 use lib.Seq.{get_or-drop, drop-cons}
 use lib.Dec.{eqb, leb, ltb}
-use borrow.Author.Tests.{not-true, eqb-true, eq-eqb, ne_eqb, leb-true, le-leb, ltb-true}
+use borrow.Author.Tests.{not-true, eqb-true, ne_eqb, leb-true, le-leb, ltb-true}
 use Rattle.predictive.specs.Grammar.{stand}
 use Rattle.predictive.proofs.Tests.{never, and_l, and_r, and_false_l, or_l, or_r, or_neither}
 use Rattle.aadl.specs.declared.Token.{Token}
@@ -26,8 +26,26 @@ use Rattle.classes.specs.Classes.{in_longer, is_second, lead_of}
 use Rattle.cursor.specs.declared.Window.{Window}
 use Rattle.cursor.specs.Window.{window_of}
 use Rattle.scan.specs.Inner.{single, longest}
+use Rattle.std.specs.Prelude.{Option, Some, None}
 use Rattle.scan.specs.Places.{Begins, Other}
 use Rattle.scan.proofs.FirstByte.{all-bytes, first_byte, begins-mark, token-is_mark, other-begins_mark}
+
+-- As aadl gives marks: of none the kind and the length are 0.
+abbrev best : List ℕ → Token
+best bs = longest_mark 5 marks bs
+
+abbrev one : ℕ → Token
+one k = token k (cond (eqb k 0) 0 1)
+
+abbrev found : Token → Option Token
+found t = cond (eqb t.len 0) None (Some t)
+
+one-found : (k : ℕ) → found (one k) ≡ single k
+one-found k = go (eqb k 0)
+  where
+    go : (t : Bool) → found (token k (cond t 0 1)) ≡ cond t None (Some (token k 1))
+    go true = refl
+    go false = refl
 
 -- THE FIRST BYTE DECIDES -----------------------------------------------------------------------------------------------
 
@@ -50,8 +68,11 @@ longest_mark-first k (m ∷ ms) a bs e =
     let later = longest_mark-first (suc k) ms a bs (or_r this (longer-stands ms (a ∷ bs)) e) in
     λ i. cond (here i && ltb (later i).len (length (bytes m))) (token k (length (bytes m))) (later i)
 
+best-first : (a : ℕ) (bs : List ℕ) → longer-stands marks (a ∷ bs) ≡ false → best (a ∷ bs) ≡ best (a ∷ [])
+best-first a bs e = longest_mark-first 5 marks a bs e
+
 pub longest-first : (a : ℕ) (bs : List ℕ) → longer-stands marks (a ∷ bs) ≡ false → longest (a ∷ bs) ≡ longest (a ∷ [])
-longest-first a bs e = longest_mark-first 5 marks a bs e
+longest-first a bs e = ap found (best-first a bs e)
 
 -- each byte of what stands is there
 stand-at : (ks xs : List ℕ) (i : ℕ) → i < length ks → stand ks xs ≡ true → eqb (peek xs i) (get_or ks i 0) ≡ true
@@ -118,30 +139,40 @@ module _ (s : List ℕ) (at : ℕ) (w : Window) (e : w ≡ window_of s at) where
   window-second : w.second ≡ peek (drop at s) 1
   window-second = ap (λ (v : Window). v.second) e ∙ sym (get_or-drop at s 1 0)
 
-  pub longest-of_window : longest (w.first ∷ w.second ∷ w.third ∷ []) ≡ longest (drop at s)
+  best-of_window : best (w.first ∷ w.second ∷ w.third ∷ []) ≡ best (drop at s)
   unfolding marks
-  longest-of_window =
+  best-of_window =
       let third : w.third ≡ peek (drop at s) 2 = ap (λ (v : Window). v.third) e ∙ sym (get_or-drop at s 2 0) in
-      (λ i. longest (window-first i ∷ window-second i ∷ third i ∷ [])) ∙ ap longest (sym (three-peeks (drop at s))) ∙ sym (longest-peeks 3 5 marks (drop at s) refl)
+      (λ i. best (window-first i ∷ window-second i ∷ third i ∷ [])) ∙ ap best (sym (three-peeks (drop at s))) ∙ sym (longest-peeks 3 5 marks (drop at s) refl)
+
+  pub longest-of_window : longest (w.first ∷ w.second ∷ w.third ∷ []) ≡ longest (drop at s)
+  longest-of_window = ap found best-of_window
 
 -- WHAT A SCANNER GIVES -------------------------------------------------------------------------------------------------
 
-module _ (bs : List ℕ) (t : Token) (e : t ≡ longest bs) where
-  len_of : (longest bs).len ≡ t.len
-  len_of = ap (λ (u : Token). u.len) (sym e)
+-- a mark where one stands, else an error
+abbrev mark_else : Option Token → Token → Token
+mark_else None t = t
+mark_else (Some m) t = m
 
-  pub mark-stands : (t.len ≡ 0 → ⊥) → t ≡ mark_of bs
-  unfolding mark_of
-  mark-stands n = rw (ne_eqb (longest bs).len 0 (λ z. n (sym len_of ∙ z))) e
+mark_by_longest : (bs : List ℕ) → mark_else (longest bs) (token (# ERROR) (max 1 (sequence bs))) ≡ mark_of bs
+unfolding mark_of
+mark_by_longest bs = go (eqb (best bs).len 0)
+  where
+    go : (t : Bool) → mark_else (cond t None (Some (best bs))) (token (# ERROR) (max 1 (sequence bs))) ≡ cond t (token (# ERROR) (max 1 (sequence bs))) (best bs)
+    go true = refl
+    go false = refl
 
-  pub no_mark_stands : t.len ≡ 0 → (n : ℕ) → n ≡ max 1 (sequence bs) → token (# ERROR) n ≡ mark_of bs
-  unfolding mark_of
-  no_mark_stands z n h = rw (eq-eqb (longest bs).len 0 (len_of ∙ z)) (ap (token (# ERROR)) h)
+pub mark-stands : (bs : List ℕ) (t : Token) → Some t ≡ longest bs → t ≡ mark_of bs
+mark-stands bs t e = ap (λ m. mark_else m (token (# ERROR) (max 1 (sequence bs)))) e ∙ mark_by_longest bs
+
+pub no_mark_stands : (bs : List ℕ) (n : ℕ) → None ≡ longest bs → n ≡ max 1 (sequence bs) → token (# ERROR) n ≡ mark_of bs
+no_mark_stands bs n e h = ap (token (# ERROR)) h ∙ ap (λ m. mark_else m (token (# ERROR) (max 1 (sequence bs)))) e ∙ mark_by_longest bs
 
 -- MARKS BY THEIR FIRST BYTE --------------------------------------------------------------------------------------------
 
 -- a mark by its kind and its length, since every mark is closed
-mark-by : (bs : List ℕ) (k n : ℕ) → k ≡ (longest bs).kind → n ≡ (longest bs).len → token k n ≡ longest bs
+mark-by : (bs : List ℕ) (k n : ℕ) → k ≡ (best bs).kind → n ≡ (best bs).len → token k n ≡ best bs
 mark-by bs k n e f = λ i. record { kind = e i; len = f i; closed = sym (longest-closed 5 marks bs) i }
 
 -- a byte that says the kind of a mark which no other begins with
@@ -151,16 +182,13 @@ lone b = ltb (# WHITESPACE) (lead_of b) && ltb (lead_of b) (# INTEGER_LIT)
 lone-mark : (b : ℕ) (bs : List ℕ) → b < 256 → lone b ≡ true → token (lead_of b) 1 ≡ token_of (b ∷ bs)
 unfolding marks
 lone-mark b bs l e =
-    let t = longest (b ∷ []) in
+    let t = best (b ∷ []) in
     let no_longer = longer-from 0 marks (b ∷ bs) (omega arith) (not-true (in_longer 0 marks b) (all-bytes lone (λ (b : ℕ). not (in_longer 0 marks b)) refl b l e)) in
-    let k = eqb-true t.kind (lead_of b) (all-bytes lone (λ (b : ℕ). eqb (longest (b ∷ [])).kind (lead_of b)) refl b l e) in
-    let n = eqb-true t.len 1 (all-bytes lone (λ (b : ℕ). eqb (longest (b ∷ [])).len 1) refl b l e) in
-    let is : token (lead_of b) 1 ≡ longest (b ∷ bs) = mark-by (b ∷ []) (lead_of b) 1 (sym k) (sym n) ∙ sym (longest-first b bs no_longer) in
-    mark-stands (b ∷ bs) (token (lead_of b) 1) is some
+    let k = eqb-true t.kind (lead_of b) (all-bytes lone (λ (b : ℕ). eqb (best (b ∷ [])).kind (lead_of b)) refl b l e) in
+    let n = eqb-true t.len 1 (all-bytes lone (λ (b : ℕ). eqb (best (b ∷ [])).len 1) refl b l e) in
+    let is : token (lead_of b) 1 ≡ best (b ∷ bs) = mark-by (b ∷ []) (lead_of b) 1 (sym k) (sym n) ∙ sym (best-first b bs no_longer) in
+    mark-stands (b ∷ bs) (token (lead_of b) 1) (ap found is)
     ∙ token-is_mark (b ∷ bs) (all-bytes lone begins-mark refl b l e) (and_false_l (eqb b 45) (eqb (peek (b ∷ bs) 1) 45) (not-true (eqb b 45) (all-bytes lone (λ (b : ℕ). not (eqb b 45)) refl b l e)))
-  where
-    some : ◌≡◌ {A = ℕ} 1 0 → ⊥
-    some z = omega arith
 
 pub lone-token : (s : List ℕ) (at k : ℕ) → Begins s at k → (ltb (# WHITESPACE) k && ltb k (# INTEGER_LIT)) ≡ true → token k 1 ≡ token_of (drop at s)
 lone-token s at k h e =
@@ -170,20 +198,23 @@ lone-token s at k h e =
     ∙ ap token_of (sym (drop-cons s at 0 h.inside))
 
 -- the mark that the byte itself is
-other-single : (s : List ℕ) (at k : ℕ) → Begins s at k → Other k → single (k % 64) ≡ longest (peek (drop at s) 0 ∷ [])
+other-single : (s : List ℕ) (at k : ℕ) → Begins s at k → Other k → one (k % 64) ≡ best (peek (drop at s) 0 ∷ [])
 unfolding marks
 other-single s at k h o =
     let b = get_or s at 0 in
     let m : begins-mark b ≡ true = ap begins-mark (first_byte s at k h) ∙ other-begins_mark s at k h o in
-    let t = longest (b ∷ []) in
-    let n = single (lead_of b % 64) in
-    let k' = eqb-true n.kind t.kind (all-bytes begins-mark (λ (b : ℕ). eqb (single (lead_of b % 64)).kind (longest (b ∷ [])).kind) refl b h.byte m) in
-    let l' = eqb-true n.len t.len (all-bytes begins-mark (λ (b : ℕ). eqb (single (lead_of b % 64)).len (longest (b ∷ [])).len) refl b h.byte m) in
-    ap (λ (j : ℕ). single (j % 64)) (sym h.leads) ∙ mark-by (b ∷ []) n.kind n.len k' l' ∙ ap (λ (x : ℕ). longest (x ∷ [])) (first_byte s at k h)
+    let t = best (b ∷ []) in
+    let n = one (lead_of b % 64) in
+    let k' = eqb-true n.kind t.kind (all-bytes begins-mark (λ (b : ℕ). eqb (one (lead_of b % 64)).kind (best (b ∷ [])).kind) refl b h.byte m) in
+    let l' = eqb-true n.len t.len (all-bytes begins-mark (λ (b : ℕ). eqb (one (lead_of b % 64)).len (best (b ∷ [])).len) refl b h.byte m) in
+    ap (λ (j : ℕ). one (j % 64)) (sym h.leads) ∙ mark-by (b ∷ []) n.kind n.len k' l' ∙ ap (λ (x : ℕ). best (x ∷ [])) (first_byte s at k h)
 
 module _ (s : List ℕ) (at k : ℕ) (h : Begins s at k) (o : Other k) (w : Window) (e : w ≡ window_of s at) where
+  one-of_window : one (k % 64) ≡ best (w.first ∷ [])
+  one-of_window = other-single s at k h o ∙ ap (λ (b : ℕ). best (b ∷ [])) (sym (window-first s at w e))
+
   pub single-of_window : single (k % 64) ≡ longest (w.first ∷ [])
-  single-of_window = other-single s at k h o ∙ ap (λ (b : ℕ). longest (b ∷ [])) (sym (window-first s at w e))
+  single-of_window = sym (one-found (k % 64)) ∙ ap found one-of_window
 
   -- a byte that stands second in no mark
   pub single-stands : is_second w.second ≡ false → single (k % 64) ≡ longest (drop at s)
@@ -195,25 +226,3 @@ module _ (s : List ℕ) (at k : ℕ) (h : Begins s at k) (o : Other k) (w : Wind
   pub mark-token : (eqb w.first 45 && eqb w.second 45) ≡ false → mark_of (drop at s) ≡ token_of (drop at s)
   mark-token n =
       token-is_mark (drop at s) (other-begins_mark s at k h o) (sym (λ i. eqb (window-first s at w e i) 45 && eqb (window-second s at w e i) 45) ∙ n)
-
--- TWO OR THREE TESTS IN A ROW ------------------------------------------------------------------------------------------
-
-module _ (a b k l : ℕ) (e : (eqb a k && eqb b l) ≡ true) where
-  pub both : (cs : List ℕ) → (a ∷ b ∷ cs) ≡ (k ∷ l ∷ cs)
-  both cs =
-      let p = eqb-true a k (and_l (eqb a k) (eqb b l) e) in
-      let q = eqb-true b l (and_r (eqb a k) (eqb b l) e) in
-      λ i. p i ∷ q i ∷ cs
-
-pub all_three : (a b c k l m : ℕ) → ((eqb a k && eqb b l) && eqb c m) ≡ true → (a ∷ b ∷ c ∷ []) ≡ (k ∷ l ∷ m ∷ [])
-all_three a b c k l m e =
-    let q = eqb-true c m (and_r (eqb a k && eqb b l) (eqb c m) e) in
-    both a b k l (and_l (eqb a k && eqb b l) (eqb c m) e) (c ∷ []) ∙ (λ i. k ∷ l ∷ q i ∷ [])
-
--- what `stand` says of the same bytes
-pub not_both : (a b k l : ℕ) (cs : List ℕ) → (eqb a k && eqb b l) ≡ false → stand (k ∷ l ∷ []) (a ∷ b ∷ cs) ≡ false
-not_both a b k l cs e = ap (λ (t : Bool). eqb a k && t) (and-true (eqb b l)) ∙ e
-
-pub not_all_three : (a b c k l m : ℕ) → ((eqb a k && eqb b l) && eqb c m) ≡ false → stand (k ∷ l ∷ m ∷ []) (a ∷ b ∷ c ∷ []) ≡ false
-not_all_three a b c k l m e =
-    ap (λ (t : Bool). eqb a k && (eqb b l && t)) (and-true (eqb c m)) ∙ sym (and_assoc (eqb a k) (eqb b l) (eqb c m)) ∙ e

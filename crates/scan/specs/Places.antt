@@ -2,8 +2,7 @@
 use Rattle.std.specs.Prelude.{ℕ, zero, suc, ◌+◌, ◌≤◌, ◌<◌, ◌≡◌, false, cond, List, length, get_or, eqb}
 use Rattle.aadl.specs.Kinds.{#◌, WHITESPACE, IDENT, INTEGER_LIT, STRING_LIT}
 use Rattle.aadl.specs.Bytes.{is_ident_continue}
-use Rattle.keywords.specs.Tables.{Lent}
-use Rattle.classes.specs.Classes.{lead_of, lead_table, class_table}
+use Rattle.classes.specs.Classes.{lead_of}
 
 -- At a place in the text stands a byte that says k of the token that begins with it.
 pub record Begins (s : List ℕ) (at k : ℕ) : Type 0 where
@@ -35,8 +34,3 @@ last_gap s (suc n) =
 pub record Bounds (s : List ℕ) (bound : ℕ) : Type 0 where
   pub inside : 1 ≤ bound → bound < length s
   pub ends : 1 ≤ bound → is_ident_continue (get_or s bound 0) ≡ false
-
--- A token can be scanned at a place: it is within the text, words end before a bound, and the lent tables are the constants.
-abbrev pub CanScan : (s : List ℕ) → (at bound : ℕ) → (leads classes letters starts lengths kinds slots : List ℕ) → Type 0
-CanScan s at bound leads classes letters starts lengths kinds slots =
-    (at + 1 ≤ length s) × Bounds s bound × (leads ≡ lead_table) × (classes ≡ class_table) × Lent letters starts lengths kinds slots

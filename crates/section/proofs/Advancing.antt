@@ -18,7 +18,7 @@ use Rattle.aadl.specs.Reading.{pushed}
 use Rattle.aadl.specs.Answers.{answered, refused, token_words}
 use Rattle.aadl.proofs.Lists.{Each}
 use Rattle.aadl.proofs.Refusals.{Refuses6}
-use Rattle.parser.specs.declared.Parser.{Parser}
+use Rattle.parser.specs.Counters.{Counters}
 use Rattle.parser.specs.Input.{Input, input, next}
 use Rattle.parser.specs.State.{with_stop, one_used, one_more}
 use Rattle.parser.proofs.Emit.{advance}
@@ -29,7 +29,7 @@ use Rattle.section.proofs.Places.{behind-byte, next-behind}
 
 -- ONE EVENT ------------------------------------------------------------------------------------------------------------
 
-abbrev token-on : Input → Parser → Parser
+abbrev token-on : Input → Counters → Counters
 token-on inp p = record { at = (next inp p).at; byte = (next inp p).byte; taken = one_more p.taken; used = p.used + 1; left = p.left; stop = p.stop }
 
 -- an event that takes no token
@@ -38,7 +38,7 @@ pub data Plain : Event → Type 0 where
   a-finish : Plain finish
   a-message : {m : ℕ} → Plain (error (message m))
 
-module _ (inp : Input) (n : ℕ) (es : List Event) (p : Parser) (g : p.stop ≡ 0) where
+module _ (inp : Input) (n : ℕ) (es : List Event) (p : Counters) (g : p.stop ≡ 0) where
   advance-one_more : (e : Event) → Plain e → p.used < n → advance inp n (e ∷ es) p ≡ advance inp n es (one_used p)
   unfolding advance
   advance-one_more e a-start h = rw (eq-eqb p.stop 0 g, lt-ltb p.used n h) refl
@@ -92,7 +92,7 @@ outcome-same : (text : List ℕ) (t : ℕ) {o q : Bool} {a a' : ℕ} {x y : Bool
 outcome-same text t e f g h k l = λ i. outcome text t (e i) (f i) (g i) (h i) (k i) (l i)
 
 -- The parser p goes on: k tokens are behind it, and of the room n there are m words left.
-pub record Going (text : List ℕ) (n m k : ℕ) (p : Parser) : Type 0 where
+pub record Going (text : List ℕ) (n m k : ℕ) (p : Counters) : Type 0 where
   pub goes : p.stop ≡ 0
   pub counted : p.taken ≡ k
   pub behind : Behind text k p
@@ -104,12 +104,12 @@ module _ (text : List ℕ) (t n : ℕ) (small : n ≤ most_events) where
   inp = input text (token_words text)
 
   -- what p answers after the events
-  abbrev Advances : (es : List Event) → (m k : ℕ) → Parser → Type 0
+  abbrev Advances : (es : List Event) → (m k : ℕ) → Counters → Type 0
   Advances es m k p =
       reply t (advance inp n es p)
       ≡ outcome text t (ltb m (length (pushed es))) (k + taken (take m (pushed es))) (erring stops es) (k + taken (pushed es)) (k + taken es) (p.used + length es)
 
-  stopped-reply : (s : ℕ) (es : List Event) (k : ℕ) (p : Parser) → Behind text k p →
+  stopped-reply : (s : ℕ) (es : List Event) (k : ℕ) (p : Counters) → Behind text k p →
       reply t (advance inp n es (with_stop (suc s) p)) ≡ refused (suc s) (start_of text (k + 0))
   unfolding reply
   stopped-reply s es k p x =
@@ -118,7 +118,7 @@ module _ (text : List ℕ) (t n : ℕ) (small : n ≤ most_events) where
       ap (reply t) (advance-stopped inp n es (with_stop (suc s) p) z) ∙ q ∙ ap (refused (suc s)) (behind-byte text k p x ∙ ap (start_of text) (omega arith))
 
   -- no word is left for the first of the events
-  no_word : (e : Event) (es : List Event) (k : ℕ) (p : Parser) → Going text n 0 k p → pushed (e ∷ es) ≡ e ∷ pushed es →
+  no_word : (e : Event) (es : List Event) (k : ℕ) (p : Counters) → Going text n 0 k p → pushed (e ∷ es) ≡ e ∷ pushed es →
       advance inp n (e ∷ es) p ≡ advance inp n es (with_stop 5 p) → Advances (e ∷ es) 0 k p
   unfolding taken
   no_word e es k p x f g =
@@ -126,11 +126,11 @@ module _ (text : List ℕ) (t n : ℕ) (small : n ≤ most_events) where
       ∙ sym (ap (λ (o : Bool). outcome text t o (k + 0) (erring stops (e ∷ es)) (k + taken (pushed (e ∷ es))) (k + taken (e ∷ es)) (p.used + suc (length es)))
       (ap (λ (l : List Event). ltb 0 (length l)) f ∙ lt-ltb 0 (suc (length (pushed es))) (omega arith)))
 
-  used-one : (m k : ℕ) (p : Parser) → Going text n (suc m) k p → Going text n m k (one_used p)
+  used-one : (m k : ℕ) (p : Counters) → Going text n (suc m) k p → Going text n m k (one_used p)
   used-one m k p x =
       record { goes = x.goes; counted = x.counted; behind = record { where_it_is = x.behind.where_it_is }; fewer = omega (arith, x.fewer); room = omega (arith, x.room) }
 
-  one-taken : (m k : ℕ) (p : Parser) → Going text n (suc m) k p → Going text n m (suc k) (token-on inp p)
+  one-taken : (m k : ℕ) (p : Counters) → Going text n (suc m) k p → Going text n m (suc k) (token-on inp p)
   one-taken m k p x =
       record {
         goes = x.goes;
@@ -140,8 +140,8 @@ module _ (text : List ℕ) (t n : ℕ) (small : n ≤ most_events) where
         room = omega (arith, x.room);
       }
 
-  plain : (e : Event) (es : List Event) → Plain e → ((m k : ℕ) (p : Parser) → Going text n m k p → Advances es m k p) →
-      (m k : ℕ) (p : Parser) → Going text n m k p → Advances (e ∷ es) m k p
+  plain : (e : Event) (es : List Event) → Plain e → ((m k : ℕ) (p : Counters) → Going text n m k p → Advances es m k p) →
+      (m k : ℕ) (p : Counters) → Going text n m k p → Advances (e ∷ es) m k p
   plain e es pl ih zero k p x = no_word e es k p x (pushed-plain e es pl) (advance-full inp n es p x.goes e pl (omega (arith, x.room)))
   plain e es pl ih (suc m) k p x =
       let f = pushed-plain e es pl in
@@ -155,8 +155,8 @@ module _ (text : List ℕ) (t n : ℕ) (small : n ≤ most_events) where
       (ap (λ (j : ℕ). k + j) (taken-plain e es pl))
       (omega arith))
 
-  takes_one : (i : ℕ) (es : List Event) → ((m k : ℕ) (p : Parser) → Going text n m k p → Advances es m k p) →
-      (m k : ℕ) (p : Parser) → Going text n m k p → Advances (token i ∷ es) m k p
+  takes_one : (i : ℕ) (es : List Event) → ((m k : ℕ) (p : Counters) → Going text n m k p → Advances es m k p) →
+      (m k : ℕ) (p : Counters) → Going text n m k p → Advances (token i ∷ es) m k p
   unfolding pushed taken erring
   takes_one i es ih zero k p x = no_word (token i) es k p x refl (advance-token_full inp n es p x.goes i (omega (arith, x.room)))
   takes_one i es ih (suc m) k p x =
@@ -167,13 +167,13 @@ module _ (text : List ℕ) (t n : ℕ) (small : n ≤ most_events) where
       ∙ ih m (suc k) (token-on inp p) (one-taken m k p x)
       ∙ sym (outcome-same text t (leb-suc-suc (suc m) (length (pushed es))) (one (taken (take m (pushed es)))) same (one (taken (pushed es))) (one (taken es)) used)
 
-  too_deep-here : (es : List Event) (m k : ℕ) (p : Parser) → Going text n m k p → Advances (error (refusal 6) ∷ es) m k p
+  too_deep-here : (es : List Event) (m k : ℕ) (p : Counters) → Going text n m k p → Advances (error (refusal 6) ∷ es) m k p
   unfolding pushed taken erring
   too_deep-here es m k p x =
       ap (reply t) (advance-deep inp n es p x.goes) ∙ stopped-reply 5 es k p x.behind
       ∙ sym (ap (λ (o : Bool). outcome text t o (k + taken (take m [])) true (k + 0) (k + taken es) (p.used + suc (length es))) (le-ltb m 0 zero-le))
 
-  pub advances : (es : List Event) → Each Refuses6 es → (m k : ℕ) (p : Parser) → Going text n m k p →
+  pub advances : (es : List Event) → Each Refuses6 es → (m k : ℕ) (p : Counters) → Going text n m k p →
       reply t (advance (input text (token_words text)) n es p)
       ≡ cond (ltb m (length (pushed es))) (refused 5 (start_of text (k + taken (take m (pushed es)))))
       (cond (erring stops es) (refused 6 (start_of text (k + taken (pushed es)))) (answered t (k + taken es) (p.used + length es)))

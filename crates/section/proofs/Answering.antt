@@ -19,19 +19,19 @@ use Rattle.aadl.specs.Promises.{TokensCalled, SectionCalled}
 use Rattle.aadl.proofs.Settled.{number_small}
 use Rattle.aadl.proofs.Extending.{did-same, on-refused, own-refuses, none-refuses}
 use Rattle.aadl.proofs.CallsRead.{exit-at, tokens-sound, tokens-settled, tokens-whole, tokens-read, section-promised}
-use Rattle.parser.specs.declared.Parser.{Parser}
+use Rattle.parser.specs.Counters.{Counters}
 use Rattle.section.specs.Replies.{reply, section_reply, Sectioned}
 
-reply-stopped : (t : ℕ) (p : Parser) → (p.stop ≡ 0 → ⊥) → reply t p ≡ refused p.stop p.byte
+reply-stopped : (t : ℕ) (p : Counters) → (p.stop ≡ 0 → ⊥) → reply t p ≡ refused p.stop p.byte
 unfolding reply
 reply-stopped t p f = rw (ne_eqb p.stop 0 f) refl
 
-reply-goes : (t : ℕ) (p : Parser) → p.stop ≡ 0 → reply t p ≡ answered t p.taken p.used
+reply-goes : (t : ℕ) (p : Counters) → p.stop ≡ 0 → reply t p ≡ answered t p.taken p.used
 unfolding reply
 reply-goes t p e = rw (eq-eqb p.stop 0 e) refl
 
 -- The number for which a parser stopped fits a byte.
-pub stopped-small : {limits : Limits} {text b : List ℕ} {p : Parser} {c : List ℕ} → Sectioned limits text b p c → (p.stop ≡ 0 → ⊥) → p.stop ≤ 255
+pub stopped-small : {limits : Limits} {text b : List ℕ} {p : Counters} {c : List ℕ} → Sectioned limits text b p c → (p.stop ≡ 0 → ⊥) → p.stop ≤ 255
 unfolding section_reply
 stopped-small {limits} {text} {b} {p} x f =
     let call : Call plain = record { checks = section_checks limits text (room (length b)); all = all_answered limits text; buffers = [] } in
@@ -74,27 +74,28 @@ module _ {limits : Limits} {text old : List ℕ} {a : Answer} {ts : List ℕ} (c
     pub passed_words : take a.tokens ts ≡ token_words text
     passed_words = ap (take a.tokens) left-words ∙ take_at (token_words text) _ a.tokens (length-map (tokens text) token_word ∙ sym passed-count)
 
-    module _ {last : List ℕ} {p : Parser} {es : List ℕ} (x : Sectioned limits text last p es) where
+    module _ {last : List ℕ} {p : Counters} {es : List ℕ} (x : Sectioned limits text last p es) where
       by-reply : checked refused (section_checks limits text (room (length last))) ((reading_events limits text last).added a) ≡ reply (length (tokens text)) p
       unfolding section_reply
       by-reply =
           ap (λ (k : ℕ). checked refused (section_checks limits text (room (length last))) ((reading_events limits text last).added (answered k 0 0))) passed-count
           ∙ sym x.answer
 
-      pub called-stopped : (r : Answer) (us fs : List ℕ) → (p.stop ≡ 0 → ⊥) → r ≡ refused p.stop p.byte → length ts ≡ length old →
-          us ≡ replicate (length ts) 0 → fs ≡ replicate (length es) 0 → SectionCalled limits text old last r us fs
+      pub called-stopped : (r : Answer) (us fs : List ℕ) {gs : List ℕ} → gs ≡ es → (p.stop ≡ 0 → ⊥) → r ≡ refused p.stop p.byte → length ts ≡ length old →
+          us ≡ replicate (length ts) 0 → fs ≡ replicate (length gs) 0 → SectionCalled limits text old last r us fs
       unfolding section_call tokens_call
-      called-stopped r us fs f g l y z =
+      called-stopped r us fs e f g l y z =
           section-promised limits text old last
           (did-same
           (own-refuses (tokens-sound limits text old) (reading_events limits text last) c.did n (refused p.stop p.byte) (by-reply ∙ reply-stopped (length (tokens text)) p f) f)
-          g (λ i. (y ∙ ap (λ (k : ℕ). replicate k 0) l) i ∷ (z ∙ ap (λ (k : ℕ). replicate k 0) x.long) i ∷ []))
+          g (λ i. (y ∙ ap (λ (k : ℕ). replicate k 0) l) i ∷ (z ∙ ap (λ (k : ℕ). replicate k 0) (ap length e ∙ x.long)) i ∷ []))
 
-      pub called-answered : p.stop ≡ 0 → SectionCalled limits text old last (answered a.tokens p.taken p.used) ts es
+      -- .. the lent words being those that the parser left
+      pub called-answered : {fs : List ℕ} → fs ≡ es → p.stop ≡ 0 → SectionCalled limits text old last (answered a.tokens p.taken p.used) ts fs
       unfolding section_call
-      called-answered h =
+      called-answered e h =
           let t = length (tokens text) in
           section-promised limits text old last
           (did-same
           (none-refuses (tokens-sound limits text old) (reading_events limits text last) c.did n (answered t p.taken p.used) (by-reply ∙ reply-goes t p h) refl)
-          (ap (λ (k : ℕ). answered k p.taken p.used) passed-count) (λ i. ts ∷ x.words h i ∷ []))
+          (ap (λ (k : ℕ). answered k p.taken p.used) passed-count) (λ i. ts ∷ (e ∙ x.words h) i ∷ []))

@@ -2,20 +2,22 @@
 -- has kinds. By induction over the words. Assumes nothing.
 use Prim.Native.Nat.{ℕ, zero, suc, ◌+◌, ◌<◌}
 use native.Mathlib.Omega.{arith}
-use mathlib.Core.Path.{◌≡◌, refl, ap, ◌∙◌}
-use mathlib.Core.Bool.{Bool, true, false, ◌&&◌, ◌||◌, cond}
+use mathlib.Core.Path.{◌≡◌, refl, sym, ap, ◌∙◌}
+use mathlib.Core.Bool.{Bool, true, false, ◌||◌, cond, not, or-false, or_assoc}
 use mathlib.Core.List.{List, [], ◌∷◌, map}
-use lib.ListN.{length, get_or}
-use lib.Dec.{leb, ltb}
-use borrow.Author.Tests.{le-leb, ltb-true, ltb-false}
+use lib.ListN.{length, get_or, take, drop}
+use lib.Seq.{drop-cons}
+use native.Mathlib.Numerals.{add-one}
+use lib.Dec.{leb}
+use borrow.Author.Tests.{le-leb}
+use Rattle.std.specs.List.{count_by}
+use Rattle.std.proofs.lemmas.List.Sums.{sum_by-cons}
 use Rattle.predictive.specs.Events.{erring, any_fault}
-use Rattle.predictive.proofs.Tests.{and_l, and_r}
 use Rattle.aadl.specs.Tokens.{kind_in}
 use Rattle.aadl.specs.Symbols.{is_trivia, without_trivia, kinds}
 use Rattle.aadl.specs.Encoding.{class_in, last_in, event_by, event_in}
 use Rattle.aadl.specs.Answers.{token_words}
 use Rattle.aadl.specs.Demand.{solid_words}
-use Rattle.lexer.proofs.FirstWords.{from, from_more, from_end, from_past}
 use Rattle.parser.specs.Input.{token_in}
 use Rattle.section.proofs.WordsBack.{kinds-back}
 
@@ -39,46 +41,30 @@ error-none : erring-words [] ≡ false
 unfolding erring
 error-none = refl
 
-solid-more : (w : ℕ) (ws : List ℕ) → solid_words (w ∷ ws) ≡ cond (is_trivia (kind_in w)) 0 1 + solid_words ws
-solid-more w ws = go (is_trivia (kind_in w))
+pub solid-counted : (ws : List ℕ) → count_by (λ w. not (is_trivia (kind_in w))) ws ≡ solid_words ws
+solid-counted [] = refl
+solid-counted (w ∷ ws) = sum_by-cons one w ws ∙ go (is_trivia (kind_in w)) (solid-counted ws)
   where
-    go : (t : Bool) → cond t (solid_words ws) (suc (solid_words ws)) ≡ cond t 0 1 + solid_words ws
-    go true = omega arith
-    go false = omega arith
+    one : ℕ → ℕ
+    one w = cond (not (is_trivia (kind_in w))) 1 0
 
--- Of the words from i on, of the first n: one more is gone over, or none is left.
-pub both_below : (i n m : ℕ) → (ltb i n && ltb i m) ≡ true → (i < n) × (i < m)
-both_below i n m e = (ltb-true i n (and_l (ltb i n) (ltb i m) e), ltb-true i m (and_r (ltb i n) (ltb i m) e))
+    go : {k : ℕ} (t : Bool) → k ≡ solid_words ws → cond (not t) 1 0 + k ≡ cond t (solid_words ws) (suc (solid_words ws))
+    go true e = omega (arith, e)
+    go false e = omega (arith, e)
 
-from-none : (i n : ℕ) (ws : List ℕ) → (ltb i n && ltb i (length ws)) ≡ false → from i n ws ≡ []
-from-none i n ws h = go (ltb i n) refl h
+-- An Error among so many words from one on: it is that one, or among the rest.
+pub error-from : (n k : ℕ) (ws : List ℕ) (f : Bool) → k < length ws →
+    (f || erring-words (take (suc n) (drop k ws))) ≡ ((f || leb 3 (class_in (get_or ws k 0))) || erring-words (take n (drop (k + 1) ws)))
+error-from n k ws f h =
+    ap (λ b. f || b) (ap (λ us. erring-words (take (suc n) us)) (drop-cons ws k 0 h) ∙ error-more w (take n (drop (suc k) ws)))
+    ∙ sym (or_assoc f (leb 3 (class_in w)) (erring-words (take n (drop (suc k) ws))))
+    ∙ ap (λ j. (f || leb 3 (class_in w)) || erring-words (take n (drop j ws))) (sym (add-one k))
   where
-    go : (t : Bool) → ltb i n ≡ t → (t && ltb i (length ws)) ≡ false → from i n ws ≡ []
-    go true e f = from_past i n ws (ltb-false i (length ws) f)
-    go false e f = from_end i n ws (ltb-false i n e)
+    w : ℕ
+    w = get_or ws k 0
 
-pub error-from : (i n : ℕ) (ws : List ℕ) (found : Bool) → i < n → i < length ws →
-    (found || erring-words (from i n ws)) ≡ ((found || leb 3 (class_in (get_or ws i 0))) || erring-words (from (i + 1) n ws))
-error-from i n ws found h l = go found (ap erring-words (from_more i n ws h l) ∙ error-more (get_or ws i 0) (from (i + 1) n ws))
-  where
-    go : (f : Bool) → erring-words (from i n ws) ≡ (leb 3 (class_in (get_or ws i 0)) || erring-words (from (i + 1) n ws)) →
-        (f || erring-words (from i n ws)) ≡ ((f || leb 3 (class_in (get_or ws i 0))) || erring-words (from (i + 1) n ws))
-    go true e = refl
-    go false e = e
-
-pub error-past : (i n : ℕ) (ws : List ℕ) (found : Bool) → (ltb i n && ltb i (length ws)) ≡ false → (found || erring-words (from i n ws)) ≡ found
-error-past i n ws found h = go found (ap erring-words (from-none i n ws h) ∙ error-none)
-  where
-    go : (f : Bool) → erring-words (from i n ws) ≡ false → (f || erring-words (from i n ws)) ≡ f
-    go true e = refl
-    go false e = e
-
-pub solid-from : (i n : ℕ) (ws : List ℕ) → i < n → i < length ws →
-    solid_words (from i n ws) ≡ cond (is_trivia (kind_in (get_or ws i 0))) 0 1 + solid_words (from (i + 1) n ws)
-solid-from i n ws h l = ap solid_words (from_more i n ws h l) ∙ solid-more (get_or ws i 0) (from (i + 1) n ws)
-
-pub solid-past : (i n : ℕ) (ws : List ℕ) → (ltb i n && ltb i (length ws)) ≡ false → solid_words (from i n ws) ≡ 0
-solid-past i n ws h = ap solid_words (from-none i n ws h)
+pub error-done : (k : ℕ) (ws : List ℕ) (f : Bool) → (f || erring-words (take 0 (drop k ws))) ≡ f
+error-done k ws f = ap (λ b. f || b) error-none ∙ or-false f
 
 -- OF A TEXT ------------------------------------------------------------------------------------------------------------
 

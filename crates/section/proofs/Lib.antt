@@ -9,3 +9,4 @@ pub mod CleanLaws
 pub mod Demands
 pub mod Unrefused
 pub mod Answering
+pub mod Reaching

@@ -12,7 +12,7 @@ use Rattle.aadl.specs.Symbols.{raw_number}
 use Rattle.aadl.specs.Encoding.{event_word, cut_to_word, words_of}
 use Rattle.aadl.specs.Answers.{token_words}
 use Rattle.aadl.proofs.TokensCover.{tokens-within_text}
-use Rattle.parser.specs.declared.Parser.{Parser}
+use Rattle.parser.specs.Counters.{Counters}
 use Rattle.parser.specs.Input.{Input, input}
 use Rattle.parser.specs.State.{State, passed, pass, push, enter, emit}
 use Rattle.parser.proofs.Pushing.{Goes, push-went, halt-stops, pass-goes}
@@ -26,7 +26,7 @@ module _ (text : List ℕ) (short : length text < 65536) where
   inp = input text (token_words text)
 
   -- The number where the parser stands is a word as it is.
-  number-whole : (k : ℕ) (p : Parser) → Behind text k p → cut_to_word p.at ≡ raw_number text k
+  number-whole : (k : ℕ) (p : Counters) → Behind text k p → cut_to_word p.at ≡ raw_number text k
   number-whole k p x =
       let few : p.at < 65536 = omega (arith, x.where_it_is.counts, length-map (tokens text) token_word, tokens-within_text text, short) in
       let whole : cut_to_word p.at ≡ p.at = omega (arith, few) in
@@ -45,7 +45,7 @@ module _ (text : List ℕ) (short : length text < 65536) where
       subst (λ (r : State). Behind text (suc k) r.parser) (sym (pass-goes inp t g))
       (next-behind text k t.parser (passed inp t).parser (pushed-behind k (token j) s x g) refl refl)
 
-  stays : (k : ℕ) {p : Parser} → Behind text k p → Behind text (k + 0) p
+  stays : (k : ℕ) {p : Counters} → Behind text k p → Behind text (k + 0) p
   stays k {p} x = subst (λ (n : ℕ). Behind text n p) (omega arith) x
 
   entered_behind : (k : ℕ) (e : Event) (s : State) → Behind text k s.parser → Goes (enter inp e s) → Behind text (k + taken (e ∷ [])) (enter inp e s).parser

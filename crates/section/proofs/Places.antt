@@ -13,8 +13,7 @@ use Rattle.aadl.specs.Bytes.{peek}
 use Rattle.aadl.specs.Tokens.{kind_in, tokens, length_in, total, token_word}
 use Rattle.aadl.specs.Symbols.{is_trivia, symbol_of, Placed, placed, symbols, start_of, raw_numbers, raw_number}
 use Rattle.aadl.specs.Answers.{token_words}
-use Rattle.parser.specs.declared.Parser.{Parser}
-use Rattle.parser.specs.declared.Place.{Place}
+use Rattle.parser.specs.Counters.{Counters, Place}
 use Rattle.parser.specs.Input.{input, standing, rest, past, skip, after_one, next, new}
 use Rattle.section.specs.Standing.{placed_words, numbers_in, Solid, Stood, Behind}
 use Rattle.section.proofs.WordsBack.{placed-back, numbers-back, total-token_words}
@@ -138,14 +137,14 @@ getD_from [] (suc k) d = refl
 getD_from (p ∷ ps) (suc k) d = getD_from ps k d
 
 -- It stands at the start of the next one ..
-pub behind-byte : (text : List ℕ) (k : ℕ) (p : Parser) → Behind text k p → p.byte ≡ start_of text k
+pub behind-byte : (text : List ℕ) (k : ℕ) (p : Counters) → Behind text k p → p.byte ≡ start_of text k
 unfolding start_of
 behind-byte text k p x =
     let ps = placed text 0 (tokens text) in
     stood-place text (token_words text) (drop k ps) (drop k (raw_numbers 0 (tokens text))) p.at p.byte x.where_it_is ∙ getD_from ps k (length text)
 
 -- .. at its raw number, or at the token count.
-pub behind-at : (text : List ℕ) (k : ℕ) (p : Parser) → Behind text k p → p.at ≡ raw_number text k
+pub behind-at : (text : List ℕ) (k : ℕ) (p : Counters) → Behind text k p → p.at ≡ raw_number text k
 unfolding raw_number
 behind-at text k p x =
     let ns = raw_numbers 0 (tokens text) in
@@ -161,7 +160,7 @@ new-behind text l h =
           (omega arith) (numbers-back text h);
     }
 
-pub next-behind : (text : List ℕ) (k : ℕ) (p q : Parser) → Behind text k p → q.at ≡ (next (input text (token_words text)) p).at →
+pub next-behind : (text : List ℕ) (k : ℕ) (p q : Counters) → Behind text k p → q.at ≡ (next (input text (token_words text)) p).at →
     q.byte ≡ (next (input text (token_words text)) p).byte → Behind text (suc k) q
 next-behind text k p q x e f =
     let ws = token_words text in

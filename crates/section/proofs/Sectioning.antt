@@ -20,16 +20,20 @@ use Rattle.aadl.specs.Encoding.{room as room_in}
 use Rattle.aadl.specs.Reading.{reading, events, pushed, too_deep}
 use Rattle.aadl.specs.Answers.{answered, refused, token_words, event_words}
 use Rattle.aadl.proofs.Refusals.{events-refuse_6}
+use Rattle.std.specs.Borrow.{Bor, MutBor}
 use Rattle.parser.specs.declared.Parser.{Parser}
+use Rattle.parser.specs.declared.Tokens.{Tokens}
+use Rattle.parser.specs.Counters.{Counters}
 use Rattle.parser.specs.Input.{Input, input, rest, new}
 use Rattle.parser.specs.Buffer.{room}
 use Rattle.parser.specs.State.{State, state, halt}
 use Rattle.parser.specs.Reads.{stands, Ran, Emitted, Read, reading_at}
+use Rattle.parser.specs.Parsers.{source, counters, Began, stand, Steps, ReadsWithin}
 use Rattle.parser.proofs.Buffer.{room_most}
 use Rattle.parser.proofs.Pushing.{halt-goes}
 use Rattle.parser.proofs.Written.{written}
 use Rattle.parser.proofs.Emitted.{emitted-advance}
-use Rattle.section.specs.Replies.{reply, section_reply, Sectioned}
+use Rattle.section.specs.Replies.{reply, section_reply, Sectioned, ReadsSection}
 use Rattle.section.proofs.Places.{behind-byte, new-behind, new-rest}
 use Rattle.section.proofs.Numbering.{along_numbers}
 use Rattle.section.proofs.Advancing.{Going, advances}
@@ -38,7 +42,7 @@ module _ (limits : Limits) (text : List ℕ) (short : length text < 65536) where
   abbrev inp : Input
   inp = input text (token_words text)
 
-  abbrev begin : Parser
+  abbrev begin : Counters
   begin = new (input text (token_words text)) limits.openers
 
   begin-going : (n : ℕ) → Going text n n 0 begin
@@ -53,14 +57,16 @@ module _ (limits : Limits) (text : List ℕ) (short : length text < 65536) where
   begin-stands = or-false (is (# PROPERTIES_KW) (rest inp begin)) ∙ ap (is (# PROPERTIES_KW)) (new-rest text limits.openers short)
 
   -- `properties` does not stand
-  pub refused-4 : (b : List ℕ) (r : Parser) → stands inp (one (# PROPERTIES_KW) ∷ []) begin ≡ false → Ran (halt 4) begin b r b → Sectioned limits text b r b
+  pub refused-4 : (b : List ℕ) (r : Counters) (c : List ℕ) → stands inp (one (# PROPERTIES_KW) ∷ []) begin ≡ false → Ran (halt 4) begin b r c →
+      Sectioned limits text b r c
   unfolding reply section_reply new
-  refused-4 b r h x =
-      let e = ap (λ (s : State). s.parser) (x.ran ∙ halt-goes 4 (state begin b) refl) in
+  refused-4 b r c h x =
+      let e = x.ran ∙ halt-goes 4 (state begin b) refl in
+      let f = ap (λ (s : State). s.parser) e in
       record {
-        answer = ap (reply (length (tokens text))) e ∙ rw (sym begin-stands ∙ h) (ap (refused 4) (behind-byte text 0 begin (new-behind text limits.openers short)));
-        words = λ g. absurd (omega (arith, g, ap (λ (p : Parser). p.stop) e));
-        long = refl;
+        answer = ap (reply (length (tokens text))) f ∙ rw (sym begin-stands ∙ h) (ap (refused 4) (behind-byte text 0 begin (new-behind text limits.openers short)));
+        words = λ g. absurd (omega (arith, g, ap (λ (p : Counters). p.stop) f));
+        long = ap (λ (s : State). length s.words) e;
       }
 
   -- THE READING --------------------------------------------------------------------------------------------------------
@@ -73,7 +79,7 @@ module _ (limits : Limits) (text : List ℕ) (short : length text < 65536) where
   unfolding reading
   begin-reading = ap (λ (xs : List ℕ). read grammar (suc (length (symbols text))) limits.openers section xs) (new-rest text limits.openers short)
 
-  module _ {b : List ℕ} {r : Parser} {c : List ℕ} (x : Read inp begin.left section begin b r c) where
+  module _ {b : List ℕ} {r : Counters} {c : List ℕ} (x : Read inp begin.left section begin b r c) where
     section-emitted : Emitted inp es begin b r c
     unfolding events new
     section-emitted =
@@ -84,7 +90,7 @@ module _ (limits : Limits) (text : List ℕ) (short : length text < 65536) where
     section-words : r.stop ≡ 0 → c ≡ event_words limits text ++ drop (length (event_words limits text)) b
     unfolding new
     section-words h =
-        let goes = sym (ap (λ (t : Parser). t.stop) section-emitted.parser) ∙ h in
+        let goes = sym (ap (λ (t : Counters). t.stop) section-emitted.parser) ∙ h in
         let numbered = along_numbers text short es 0 (state begin b) (new-behind text limits.openers short) goes in
         section-emitted.words h ∙ written inp es begin b refl goes ∙ ap (λ (ws : List ℕ). ws ++ drop (length ws) b) numbered
 
@@ -106,25 +112,54 @@ module _ (limits : Limits) (text : List ℕ) (short : length text < 65536) where
     section-read h =
         record { answer = section-answers (sym begin-stands ∙ h); words = section-words; long = section-emitted.long }
 
--- AS THE CODE HAS IT ---------------------------------------------------------------------------------------------------
+-- AS THE CODE HAS IT --------------------------------------------------------------------------------------------------
 
--- words that are the text's, and a parser that is new over them
-module _ (limits : Limits) (text ws : List ℕ) (p : Parser) (short : length text < 65536) (w : ws ≡ token_words text) (e : p ≡ new (input text ws) limits.openers) where
-  it_begins : p ≡ new (input text (token_words text)) limits.openers
-  it_begins = e ∙ ap (λ (l : List ℕ). new (input text l) limits.openers) w
+-- a parser that has begun over a text and the text's words
+module _ (limits : Limits) {text : Bor (List ℕ)} {ws : Bor (List ℕ)} {events : MutBor (List ℕ)} {p : Parser} (short : length text.now < 65536)
+    (w : ws.now ≡ token_words text.now) (x : Began text ws events limits.openers p) where
+  abbrev begins : Counters
+  begins = new (input text.now (token_words text.now)) limits.openers
 
-  it_stands : stands (input text ws) (one (# PROPERTIES_KW) ∷ []) p ≡
-      stands (input text (token_words text)) (one (# PROPERTIES_KW) ∷ []) (new (input text (token_words text)) limits.openers)
-  it_stands = ap₂ (λ (l : List ℕ) (q : Parser). stands (input text l) (one (# PROPERTIES_KW) ∷ []) q) w it_begins
+  it_begins : counters p ≡ begins
+  unfolding new
+  it_begins =
+      x.counts
+      ∙ ap (λ (t : Tokens). record { at = t.at; byte = t.byte; taken = 0; used = 0; left = limits.openers; stop = 0 }) x.tokens
+      ∙ ap (λ (l : List ℕ). new (input text.now l) limits.openers) w
 
-  pub code_refuses : (b : List ℕ) (r : Parser) {t : Bool} → t ≡ stands (input text ws) (one (# PROPERTIES_KW) ∷ []) p → t ≡ false → Ran (halt 4) p b r b →
-      Sectioned limits text b r b
-  code_refuses b r h f x = refused-4 limits text short b r (sym it_stands ∙ sym h ∙ f) (subst (λ (q : Parser). Ran (halt 4) q b r b) it_begins x)
+  it_goes_over : source p.tokens ≡ input text.now (token_words text.now)
+  it_goes_over = ap source x.tokens ∙ ap (input text.now) w
 
-  pub code_reads : {b : List ℕ} {r : Parser} {c : List ℕ} {t : Bool} → t ≡ stands (input text ws) (one (# PROPERTIES_KW) ∷ []) p → t ≡ true →
-      Read (input text ws) p.left section p b r c → Sectioned limits text b r c
-  code_reads {b} {r} {c} h f x =
-      section-read limits text short
-      (subst (λ (q : Parser). Read (input text (token_words text)) q.left section q b r c) it_begins
-      (subst (λ (l : List ℕ). Read (input text l) p.left section p b r c) w x))
-      (sym it_stands ∙ sym h ∙ f)
+  it_stands : stand (one (# PROPERTIES_KW) ∷ []) p ≡ stands (input text.now (token_words text.now)) (one (# PROPERTIES_KW) ∷ []) begins
+  it_stands = ap₂ (λ (i : Input) (q : Counters). stands i (one (# PROPERTIES_KW) ∷ []) q) it_goes_over it_begins
+
+  code_refuses : {r : Parser} → stand (one (# PROPERTIES_KW) ∷ []) p ≡ false → Steps (λ _. halt 4) p r →
+      Sectioned limits text.now events.now (counters r) r.events.now
+  code_refuses {r} f y =
+      refused-4 limits text.now short events.now (counters r) r.events.now (sym it_stands ∙ f)
+      (ran x.holds it_begins)
+    where
+      ran : {b : List ℕ} {q : Counters} → p.events.now ≡ b → counters p ≡ q → Ran (halt 4) q b (counters r) r.events.now
+      ran {b} d e =
+          subst (λ (q : Counters). Ran (halt 4) q b (counters r) r.events.now) e
+          (subst (λ (b : List ℕ). Ran (halt 4) (counters p) b (counters r) r.events.now) d y.did)
+
+  code_reads : {r : Parser} → stand (one (# PROPERTIES_KW) ∷ []) p ≡ true → ReadsWithin p.left section p r →
+      Sectioned limits text.now events.now (counters r) r.events.now
+  code_reads {r} f y =
+      section-read limits text.now short
+      (over it_goes_over x.holds it_begins)
+      (sym it_stands ∙ f)
+    where
+      over : {i : Input} {b : List ℕ} {q : Counters} → source p.tokens ≡ i → p.events.now ≡ b → counters p ≡ q → Read i q.left section q b (counters r) r.events.now
+      over {i} {b} c d e =
+          subst (λ (q : Counters). Read i q.left section q b (counters r) r.events.now) e
+          (subst (λ (b : List ℕ). Read i p.left section (counters p) b (counters r) r.events.now) d
+          (subst (λ (i : Input). Read i p.left section (counters p) p.events.now (counters r) r.events.now) c y.did))
+
+  pub sectioned : {r : Parser} → ReadsSection p r → Sectioned limits text.now events.now (counters r) r.events.now
+  sectioned {r} y = go (stand (one (# PROPERTIES_KW) ∷ []) p) refl
+    where
+      go : (t : Bool) → stand (one (# PROPERTIES_KW) ∷ []) p ≡ t → Sectioned limits text.now events.now (counters r) r.events.now
+      go true e = code_reads e (y.read e)
+      go false e = code_refuses e (y.refused_4 e)

@@ -8,7 +8,7 @@ use lib.ListN.{length, take, drop}
 use Rattle.aadl.specs.Tokens.{tokens, total}
 use Rattle.aadl.specs.Symbols.{placed, raw_numbers, raw_number}
 use Rattle.aadl.specs.Answers.{token_words}
-use Rattle.parser.specs.declared.Parser.{Parser}
+use Rattle.parser.specs.Counters.{Counters}
 use Rattle.parser.specs.Input.{Input, input, next, new}
 use Rattle.section.specs.Standing.{Stood, Behind}
 use Rattle.section.proofs.WordsBack.{total-token_words}
@@ -21,21 +21,21 @@ total-around (w ∷ ws) (suc i) = omega (arith, total-around ws i)
 
 module _ (text : List ℕ) (short : length text < 65536) where
   -- The words before a parser come to its byte.
-  pub behind-total : (k : ℕ) (p : Parser) → Behind text k p → p.byte ≡ total (take p.at (token_words text))
+  pub behind-total : (k : ℕ) (p : Counters) → Behind text k p → p.byte ≡ total (take p.at (token_words text))
   behind-total k p x = omega (arith, total-around (token_words text) p.at, total-token_words text short, x.where_it_is.tiles)
 
   abbrev inp : Input
   inp = input text (token_words text)
 
   -- one that passed so many tokens
-  passed_over : (n : ℕ) → (p : Parser) × Behind text n p
+  passed_over : (n : ℕ) → (p : Counters) × Behind text n p
   passed_over zero = (new inp 0, new-behind text 0 short)
   passed_over (suc n) =
       let p = passed_over n in
-      let q : Parser = record { at = (next inp p.0).at; byte = (next inp p.0).byte; taken = 0; used = 0; left = 0; stop = 0 } in
+      let q : Counters = record { at = (next inp p.0).at; byte = (next inp p.0).byte; taken = 0; used = 0; left = 0; stop = 0 } in
       (q, next-behind text n p.0 q p.1 refl refl)
 
-  pub sought : (n : ℕ) (p : Parser) → p.at ≡ raw_number text n → p.byte ≡ total (take p.at (token_words text)) → Behind text n p
+  pub sought : (n : ℕ) (p : Counters) → p.at ≡ raw_number text n → p.byte ≡ total (take p.at (token_words text)) → Behind text n p
   sought n p a b =
       let ws = token_words text in
       let q = passed_over n in

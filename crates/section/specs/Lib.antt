@@ -1,2 +1,3 @@
 pub mod Replies
 pub mod Standing
+pub mod Reaching

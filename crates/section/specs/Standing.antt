@@ -3,7 +3,7 @@ use Rattle.std.specs.Prelude.{ℕ, ◌+◌, ◌≡◌, false, List, [], ◌∷�
 use Rattle.aadl.specs.Tokens.{kind_in, tokens, total}
 use Rattle.aadl.specs.Symbols.{is_trivia, Placed, placed, raw_numbers}
 use Rattle.aadl.specs.Answers.{token_words}
-use Rattle.parser.specs.declared.Parser.{Parser}
+use Rattle.parser.specs.Counters.{Counters}
 use Rattle.parser.specs.Input.{token_in}
 
 -- the non-trivia tokens of words, the first of which starts at a byte
@@ -29,10 +29,10 @@ pub record Stood (text ws : List ℕ) (ps : List Placed) (ns : List ℕ) (i b : 
   pub numbers : numbers_in i (drop i ws) ≡ ns
 
 -- The parser p over a text and its token words has k non-trivia tokens behind it.
-pub record Behind (text : List ℕ) (k : ℕ) (p : Parser) : Type 0 where
+pub record Behind (text : List ℕ) (k : ℕ) (p : Counters) : Type 0 where
   pub where_it_is : Stood text (token_words text) (drop k (placed text 0 (tokens text))) (drop k (raw_numbers 0 (tokens text))) p.at p.byte
 
 -- The parser p goes on, with k non-trivia tokens of the text behind it.
-pub record Passed (text : List ℕ) (k : ℕ) (p : Parser) : Type 0 where
+pub record Passed (text : List ℕ) (k : ℕ) (p : Counters) : Type 0 where
   pub goes : p.stop ≡ 0
   pub behind : Behind text k p

@@ -2,31 +2,31 @@
 
 #![tactic(auto)]
 
-ghost use Rattle.std.specs.Prelude.{◌≡◌, cond, ◌<◌, length, take};
+ghost use Rattle.std.specs.Prelude.{◌≡◌, not, take, count_by};
 ghost use Rattle.predictive.specs.Events.{erring, any_fault};
 ghost use Rattle.aadl.specs.Limits.{base, Allowed};
+ghost use Rattle.aadl.specs.Symbols as Sym;
+ghost use Rattle.aadl.specs.Tokens as T;
 ghost use Rattle.aadl.specs.Encoding.{events_in};
-ghost use Rattle.aadl.specs.Answers.{token_words};
 ghost use Rattle.aadl.specs.Demand.{solid_words, is_clean};
 ghost use Rattle.aadl.specs.Promises.{MakesSectionCall};
-ghost use Rattle.section.specs.Replies.{Sectioned};
+ghost use Rattle.section.specs.Replies.{ReadsSection};
 
-use aadl::{Answer, Limits};
+use aadl::{Answer, Limits, Refusal};
 use codec::{class_in, events_told, first_word, kind_in};
 use lexer::{BASE, clear, refuse, tokenize_within};
-use parser::{Parser, at, new, stop};
+use parser::Parser;
 use syntax_kind::{PROPERTIES_KW, is_trivia};
 
-// The section of a text whose token words are lent: the Rust panics where `properties` does not stand, here the parser stops with 4.
-fn read(text: &[u8], toks: &[u32], events: &mut [u32], limits: Limits) -> Parser
-    requires { (length text.now < 65536) × (toks.now ≡ token_words text.now) }
-    ensures { Sectioned limits text.now events.old result events.new }
+// The section, where `properties` stands. The Rust panics where it does not, here the parser stops with 4.
+fn read(p: &mut Parser<'_>)
+    ensures { ReadsSection p.old p.new }
 {
-    let p = new(text, toks, limits.openers);
-    if !at(text, toks, p, PROPERTIES_KW) {
-        return stop(p, 4);
+    if p.at(PROPERTIES_KW) {
+        properties::property_section(p);
+    } else {
+        p.stop(Refusal::NoSection as usize);
     }
-    properties::property_section(text, toks, events, p)
 }
 
 // The section call within limits: the tokens of a text and the events of its section into lent words, or one of the refusals 1 to 6
@@ -45,10 +45,13 @@ pub fn property_section_within(
         return refuse(events, a.number, a.place);
     }
     let count = a.tokens;
-    let p = read(src, &tokens[..count], events, limits);
-    if p.stop != 0 {
+    let mut p = Parser::new(src, &tokens[..count], events, limits.openers);
+    read(&mut p);
+    let stop = p.stop;
+    if stop != 0 {
+        let place = p.tokens.byte;
         clear(events);
-        return refuse(tokens, p.stop as u32, p.byte);
+        return refuse(tokens, stop as u32, place);
     }
     Answer {
         number: 0,
@@ -67,42 +70,30 @@ pub fn property_section(src: &[u8], tokens: &mut [u32], events: &mut [u32]) -> A
     property_section_within(src, tokens, events, BASE)
 }
 
-// Both loops over words are without an exit, so that many words are gone over at once.
-
-// Whether an Error is among the events of the first words.
+// Whether an Error is among the events of the first words: no exit, so that many words are gone over at once.
 fn any_error(events: &[u32], count: usize) -> bool
     ensures { result ≡ erring any_fault (events_in count events.now) }
 {
-    let told = events_told(events);
+    let told = events_told(events).min(count);
     let mut found = false;
-    let mut i = 0;
-    while (i < count) & (i < told) {
-        found = found | (3 <= class_in(first_word(events, i)));
-        i += 1;
+    for i in 0..told {
+        found |= 3 <= class_in(first_word(events, i));
     }
     found
 }
 
-fn one_unless(b: bool) -> usize
-    ensures { result ≡ cond b 0 1 }
+// How many words are no trivia's.
+fn solid_in(words: &[u32]) -> usize
+    ensures { result ≡ count_by (λ w. not (Sym.is_trivia (T.kind_in w))) words.now }
 {
-    if b {
-        return 0;
-    }
-    1
+    words.iter().filter(|w| !is_trivia(kind_in(**w))).count()
 }
 
-// How many of the first words are no trivia's.
+// .. of the first words.
 fn solid_words(tokens: &[u32], count: usize) -> usize
     ensures { result ≡ solid_words (take count tokens.now) }
 {
-    let mut n = 0;
-    let mut i = 0;
-    while (i < count) & (i < tokens.len()) {
-        n += one_unless(is_trivia(kind_in(tokens[i])));
-        i += 1;
-    }
-    n
+    solid_in(&tokens[..count.min(tokens.len())])
 }
 
 // Whether an answer of the section call, with the words that it left, is clean: not refused, no Error event, every non-trivia token taken.

@@ -1,32 +1,24 @@
 -- What the answer of a read or a write means. Assumes nothing.
-use Rattle.std.specs.Prelude.{ℕ, zero, suc, Bool, true, false, Result, Ok, Err}
+use Rattle.std.specs.Prelude.{ℕ, zero, suc, Option, Some, None, Result, Ok, Err}
 use Rattle.std.specs.declared.io.Error.{Error}
 use Rattle.std.specs.declared.io.ErrorKind.{ErrorKind}
 use Rattle.std.specs.declared.io.ErrorKind.TheVariants.{Interrupted}
 use Rattle.std.specs.IoError.{error_kind}
-use Rattle.streams.specs.declared.Outcome.{Outcome}
-use Rattle.streams.specs.declared.Progress.{Progress}
 
--- A call that failed is made again where a signal interrupted it, and only there.
-unfoldable pub failure_of : ErrorKind → Outcome
-failure_of Interrupted = Outcome.Again
-failure_of _ = Outcome.Failed
+-- A call that failed is made again where a signal interrupted it, and only there; it then moved no byte.
+unfoldable pub failure_of : ErrorKind → Error → Result (Option ℕ) Error
+failure_of Interrupted e = Ok (Some 0)
+failure_of _ e = Err e
 
 -- 0 is the input's end, any other number tells how many bytes were moved; an error is a failure, unless it is that a signal interrupted the call.
-unfoldable pub outcome_of : (got : Result ℕ Error) → Outcome
-outcome_of (Ok zero) = Outcome.Ended
-outcome_of (Ok (suc n)) = Outcome.Moved
-outcome_of (Err e) = failure_of (error_kind e)
+unfoldable pub outcome_of : (got : Result ℕ Error) → Result (Option ℕ) Error
+outcome_of (Ok zero) = Ok None
+outcome_of (Ok (suc n)) = Ok (Some (suc n))
+outcome_of (Err e) = failure_of (error_kind e) e
 
--- How many bytes a call moved.
-unfoldable pub moved_by : (got : Result ℕ Error) → ℕ
-moved_by (Ok n) = n
-moved_by (Err e) = 0
-
--- How a loop of calls stands behind one: bytes moved so far, whether it goes on, whether it failed. A call that moved no byte may be fatal or not:
--- a read has then come to the input's end, a write has failed.
-unfoldable pub behind : (count : ℕ) → Outcome → (fatal : Bool) → Progress
-behind n Outcome.Moved e = record { count = n; on = true; failed = false }
-behind n Outcome.Again e = record { count = n; on = true; failed = false }
-behind n Outcome.Ended e = record { count = n; on = false; failed = e }
-behind n Outcome.Failed e = record { count = n; on = false; failed = true }
+-- How a loop of writes stands behind a call: how many bytes more are moved, or why it failed. A call that moved no byte is fatal to it; a loop of reads
+-- has then come to the input's end.
+unfoldable pub behind : (why : Error) → Result (Option ℕ) Error → Result ℕ Error
+behind why (Ok (Some n)) = Ok n
+behind why (Ok None) = Err why
+behind why (Err e) = Err e

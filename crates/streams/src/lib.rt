@@ -3,153 +3,93 @@
 
 #![tactic(auto)]
 
-ghost use Rattle.std.specs.Prelude.{◌≤◌, ◌≡◌, length};
-ghost use Rattle.streams.specs.Outcomes.{outcome_of, moved_by, behind};
+ghost use Rattle.std.specs.Prelude.{◌≤◌, ◌≡◌, length, IfOk, IfSome};
+ghost use Rattle.streams.specs.Outcomes.{outcome_of, behind};
 
 use std::io;
 use std::io::{Eprint, ErrorKind, Print, Read, Write};
 
-// What a call of `read` or `write` came to.
-#[derive(Clone, Copy)]
-pub enum Outcome {
-    Moved,
-    Ended,
-    Again,
-    Failed,
-}
-
-// What a call's answer means.
+// What the answer of a call of `read` or `write` means: how many bytes it moved, none if a signal interrupted it, and then it is made again; and `None`
+// where no byte was left to move.
 #[tactic(auto, using(crate::proofs::OutcomeLaws::again, crate::proofs::OutcomeLaws::other_failed), unfolding(crate::specs::Outcomes::outcome_of))]
-fn came_to(got: &io::Result<usize>) -> Outcome
-    ensures { result ≡ outcome_of got.now }
+fn came_to(got: io::Result<usize>) -> io::Result<Option<usize>>
+    ensures { result ≡ outcome_of got }
 {
     match got {
-        Ok(0) => Outcome::Ended,
-        Ok(_) => Outcome::Moved,
-        Err(e) if e.kind() == ErrorKind::Interrupted => Outcome::Again,
-        Err(_) => Outcome::Failed,
+        Ok(0) => Ok(None),
+        Ok(n) => Ok(Some(n)),
+        Err(e) if e.kind() == ErrorKind::Interrupted => Ok(Some(0)),
+        Err(e) => Err(e),
     }
 }
 
-// How many bytes a call moved. The error of one that failed is kept.
-#[tactic(auto, unfolding(crate::specs::Outcomes::moved_by))]
-fn moved(got: io::Result<usize>, why: &mut Option<io::Error>) -> usize
-    ensures { result ≡ moved_by got }
+// What a call of `write` comes to: one that moved no byte has failed, and there is a reason for it.
+#[tactic(auto, unfolding(crate::specs::Outcomes::behind))]
+fn after(o: io::Result<Option<usize>>, why: io::Error) -> io::Result<usize>
+    ensures { result ≡ behind why o }
 {
-    match got {
-        Ok(n) => n,
-        Err(e) => {
-            *why = Some(e);
-            0
+    o?.ok_or(why)
+}
+
+// One read. At the input's end there is `None`.
+fn read_once<R: Read>(from: &mut R, buf: &mut [u8]) -> io::Result<Option<usize>>
+    ensures { IfOk result (λ o. IfSome o (λ n. n ≤ length buf.old)) }
+{
+    came_to(from.read(buf))
+}
+
+// One write. The error of a call that failed is kept.
+fn write_once<W: Write>(to: &mut W, buf: &[u8], why: &mut io::Error) -> io::Result<usize>
+    ensures { IfOk result (λ n. n ≤ length buf.now) }
+{
+    let got = to.write(buf);
+    if let Err(e) = &got {
+        *why = *e;
+    }
+    after(came_to(got), *why)
+}
+
+// Reads until the bytes are full, the input ends or a read fails. A proved loop has to end, and nothing says that the input does: so it has a number of
+// turns, one that no run uses up.
+pub fn read_full<R: Read>(from: &mut R, buf: &mut [u8]) -> io::Result<usize>
+    ensures { IfOk result (λ n. n ≤ length buf.old) }
+{
+    let mut count = 0;
+    for _ in 0..u64::MAX {
+        if buf.len() <= count {
+            break;
+        }
+        match read_once(from, &mut buf[count..])? {
+            Some(n) => count += n,
+            None => break,
         }
     }
+    Ok(count)
 }
 
-// Where a loop of calls stands: how many bytes are moved, whether another call is made, and whether the last one failed.
-#[derive(Clone, Copy)]
-pub struct Progress {
-    pub count: usize,
-    pub on: bool,
-    pub failed: bool,
-}
-
-// How a loop stands behind a call. One that moved no byte is fatal to a loop of writes; one of reads has come to the input's end.
-#[tactic(auto, unfolding(crate::specs::Outcomes::behind))]
-fn after(count: usize, o: Outcome, fatal: bool) -> Progress
-    ensures { result ≡ behind count o fatal }
-{
-    match o {
-        Outcome::Moved => Progress {
-            count,
-            on: true,
-            failed: false,
-        },
-        Outcome::Again => Progress {
-            count,
-            on: true,
-            failed: false,
-        },
-        Outcome::Ended => Progress {
-            count,
-            on: false,
-            failed: fatal,
-        },
-        Outcome::Failed => Progress {
-            count,
-            on: false,
-            failed: true,
-        },
+// Writes the bytes. Of a write that took no byte the error is the one of the last call before it that was interrupted, if there was one.
+fn write_full<W: Write>(to: &mut W, buf: &[u8]) -> io::Result<()> {
+    let mut why = io::Error::from(ErrorKind::WriteZero);
+    let mut rest = buf;
+    for _ in 0..u64::MAX {
+        if rest.is_empty() {
+            return Ok(());
+        }
+        let n = write_once(to, rest, &mut why)?;
+        rest = &rest[n..];
     }
-}
-
-// One read behind the bytes that are read.
-#[tactic(auto, using(crate::proofs::OutcomeLaws::read_at_most, crate::proofs::OutcomeLaws::behind_count))]
-fn read_once<R: Read>(
-    from: &mut R,
-    buf: &mut [u8],
-    n: usize,
-    why: &mut Option<io::Error>,
-) -> Progress
-    requires { n ≤ length buf.old }
-    ensures { result.count ≤ length buf.old }
-{
-    let got = from.read(&mut buf[n..]);
-    let outcome = came_to(&got);
-    after(n + moved(got, why), outcome, false)
-}
-
-// One write of the bytes that are not written yet.
-#[tactic(auto, using(crate::proofs::OutcomeLaws::written_at_most, crate::proofs::OutcomeLaws::behind_count))]
-fn write_once<W: Write>(to: &mut W, buf: &[u8], n: usize, why: &mut Option<io::Error>) -> Progress
-    requires { n ≤ length buf.now }
-    ensures { result.count ≤ length buf.now }
-{
-    let got = to.write(&buf[n..]);
-    let outcome = came_to(&got);
-    after(n + moved(got, why), outcome, true)
-}
-
-// Reads until the bytes are full, the input ends or a read fails; the error of the last call that failed is kept. A proved loop has to end, and nothing
-// says that the input does: so it counts its turns down, from a number that no run uses up.
-pub fn read_full<R: Read>(from: &mut R, buf: &mut [u8], why: &mut Option<io::Error>) -> Progress
-    ensures { result.count ≤ length buf.old }
-{
-    let mut turns = u64::MAX;
-    let mut p = Progress {
-        count: 0,
-        on: true,
-        failed: false,
-    };
-    while turns > 0 && p.on && p.count < buf.len() {
-        p = read_once(from, buf, p.count, why);
-        turns -= 1;
-    }
-    p
-}
-
-// Writes the bytes, and says whether all of them went out; the error of the last call that failed is kept.
-fn write_full<W: Write>(to: &mut W, buf: &[u8], why: &mut Option<io::Error>) -> bool {
-    let mut turns = u64::MAX;
-    let mut p = Progress {
-        count: 0,
-        on: true,
-        failed: false,
-    };
-    while turns > 0 && p.on && p.count < buf.len() {
-        p = write_once(to, buf, p.count, why);
-        turns -= 1;
-    }
-    p.count == buf.len()
+    Err(why)
 }
 
 // Writes the bytes to standard output, and says whether all of them went out; a failure is told on standard error.
 pub fn write_out<R: Print + Eprint>(rt: &R, buf: &[u8]) -> bool {
-    let mut why = None;
-    let well = write_full(&mut io::writer(rt), buf, &mut why);
-    if !well {
-        tell(rt, "standard output", &why);
+    match write_full(&mut io::writer(rt), buf) {
+        Ok(()) => true,
+        Err(why) => {
+            tell(rt, "standard output", &Some(why));
+            false
+        }
     }
-    well
 }
 
 // An error's text, without the number that stands behind the text of one of the system's.
@@ -163,7 +103,7 @@ fn reason(text: &[u8]) -> &str {
     }
 }
 
-// Writes a line to standard error: what failed, a colon and why. Where a write took no byte and no call before it failed, no error is kept.
+// Writes a line to standard error: what failed, a colon and why. Without a reason, that a write took no byte.
 pub fn tell<R: Eprint>(rt: &R, what: &str, why: &Option<io::Error>) {
     let error = why.unwrap_or(io::Error::from(ErrorKind::WriteZero));
     let mut text = [0u8; 256];

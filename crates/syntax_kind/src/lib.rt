@@ -1,4 +1,5 @@
-// Kinds of tokens and nodes by name, as `SyntaxKind` has them: those that the code names. And which kinds are of a class.
+// Kinds of tokens and nodes by name, as `SyntaxKind` has them: those that the code names. And which kinds are of a class. They are numbers, since each
+// function that takes a kind (`is_trivia`, `is_keyword`, `parser`) promises its answer for every number, and a lent word may hold one without a name here.
 
 #![tactic(auto)]
 
@@ -358,16 +359,4 @@ pub fn is_component_category_kw(kind: u32) -> bool
         | (kind == SUBPROGRAM_KW)
         | (kind == DATA_KW)
         | (kind == ABSTRACT_KW)
-}
-
-pub fn wide(x: u8) -> usize
-    ensures { result ≡ x }
-{
-    x as usize
-}
-
-pub fn wide32(x: u8) -> u32
-    ensures { result ≡ x }
-{
-    x as u32
 }

@@ -4,17 +4,17 @@
 use Prim.Native.Nat.{ℕ, suc, ◌≤◌, ◌<◌}
 use native.Mathlib.Omega.{arith}
 use mathlib.Core.Path.{◌≡◌, refl, sym, ap, subst, ◌∙◌}
-use mathlib.Core.Logic.{⊎_elim}
 use mathlib.Core.List.{List, [], ◌∷◌, map}
 use lib.ListN.{length, get_or, drop, length-map, drop_of_length-le}
 use lib.Seq.{sets}
+use Rattle.std.specs.Prelude.{Result, Ok, Err, MatchResult}
 use Rattle.predictive.specs.Events.{Event}
 use Rattle.aadl.specs.Tokens.{kind_in}
 use Rattle.aadl.specs.Encoding.{event_in}
 use Rattle.aadl.specs.Records.{Record, of_node, words_of_records, record_room}
 use Rattle.tree.specs.declared.Builder.{Builder}
 use Rattle.tree.specs.Walk.{Walk, turn, walk, root}
-use Rattle.tree.specs.Builders.{laid, Holds, Full, Stepped, walked, Built}
+use Rattle.tree.specs.Builders.{laid, Holds, Full, walked, Whole, Lacks, Built}
 use Rattle.tree.proofs.Chains.{events-from_here}
 use Rattle.tree.proofs.Growing.{firsts-stay, first-without_record}
 use Rattle.tree.proofs.Laid.{length_laid, laid_more, laid-over}
@@ -55,31 +55,45 @@ building_begins ws old begun h e =
     }
 
 -- What is built over the words begun is built over the words that were lent.
-pub built_over : (ws old begun : List ℕ) (b : Builder) (words : List ℕ) → 4 ≤ length old →
-    begun ≡ sets old 0 (words_of_records (of_node (kind_in (get_or ws 0 0)) 0 0 0 ∷ [])) → Built ws begun b words → Built ws old b words
-built_over ws old begun b words h e x =
-    let rs = first_rows ws in
-    let lies : begun ≡ laid rs old = e ∙ laid_more [] rs old (omega (arith, h)) in
-    let long : length begun ≡ length old = ap length lies ∙ length_laid rs old (omega (arith, h)) in
-    let room : record_room (length begun) ≡ record_room (length old) = ap record_room long in
-    record {
-      counts = λ f. x.counts (omega (arith, f, room));
-      lays = λ f. x.lays (omega (arith, f, room)) ∙ ap (laid (walked ws).rows) lies ∙ laid-over rs (walked ws).rows old (one-row ws);
-      lacks = λ t. omega (arith, x.lacks (omega (arith, t, room)), room);
-      names = λ t. x.names (omega (arith, t, room)) ∙ ap (λ (n : ℕ). get_or (map first_of (walked ws).rows) (record_room n) 0) long;
-      long = x.long ∙ long;
-    }
+pub built_over : (ws old begun : List ℕ) (r : Result ℕ ℕ) (words : List ℕ) → 4 ≤ length old →
+    begun ≡ sets old 0 (words_of_records (of_node (kind_in (get_or ws 0 0)) 0 0 0 ∷ [])) → Built ws begun r words → Built ws old r words
+built_over ws old begun r words h e x = record { built = over r x.built; long = x.long ∙ long }
+  where
+    rs : List Record
+    rs = first_rows ws
+
+    lies : begun ≡ laid rs old
+    lies = e ∙ laid_more [] rs old (omega (arith, h))
+
+    long : length begun ≡ length old
+    long = ap length lies ∙ length_laid rs old (omega (arith, h))
+
+    room : record_room (length begun) ≡ record_room (length old)
+    room = ap record_room long
+
+    over : (r : Result ℕ ℕ) → MatchResult r (λ n. Whole ws begun n words) (λ t. Lacks ws begun t) → MatchResult r (λ n. Whole ws old n words) (λ t. Lacks ws old t)
+    over (Ok n) y =
+        record {
+          counts = y.counts;
+          fits = omega (arith, y.fits, room);
+          lays = y.lays ∙ ap (laid (walked ws).rows) lies ∙ laid-over rs (walked ws).rows old (one-row ws);
+        }
+    over (Err t) y =
+        record {
+          lacks = omega (arith, y.lacks, room);
+          names = y.names ∙ ap (λ (n : ℕ). get_or (map first_of (walked ws).rows) (record_room n) 0) long;
+        }
 
 module _ (ws old : List ℕ) where
   -- there is no record for it
-  pub building_none : length old < 4 → Built ws old (builder 1 0 0) old
+  pub building_none : length old < 4 → Built ws old (Err 0) old
   building_none h =
       let z : record_room (length old) ≡ 0 = omega (arith, h) in
       record {
-        counts = λ f. absurd (omega (arith, f, z));
-        lays = λ f. absurd (omega (arith, f, z));
-        lacks = λ t. omega (arith, z, one-row ws);
-        names = λ t. sym (ap (λ (k : ℕ). get_or (map first_of (walked ws).rows) k 0) z ∙ ap (λ (l : List ℕ). get_or l 0 0) (some-rows ws).1);
+        built = record {
+          lacks = omega (arith, z, one-row ws);
+          names = sym (ap (λ (k : ℕ). get_or (map first_of (walked ws).rows) k 0) z ∙ ap (λ (l : List ℕ). get_or l 0 0) (some-rows ws).1);
+        };
         long = refl;
       }
 
@@ -88,55 +102,37 @@ module _ (ws old : List ℕ) where
     w = x.so_far
 
     -- all events are passed
-    pub building_done : length ws ≤ i → Built ws old b words
+    pub building_done : length ws ≤ i → Built ws old (Ok b.records) words
     unfolding walk
     building_done h =
         let none : length (map event_in ws) ≤ i = omega (arith, h, length-map ws event_in) in
         let all : walk i (from ws i) w ≡ w = ap (λ (es : List Event). walk i es w) (drop_of_length-le (map event_in ws) none) in
         let whole : w ≡ walked ws = sym all ∙ x.goes_on in
         let y = subst (λ (v : Walk). Holds old i v b words) whole x.holds in
-        record {
-          counts = λ f. y.counts;
-          lays = λ f. y.lays;
-          lacks = λ t. omega (arith, t, y.counts);
-          names = λ t. absurd (omega (arith, t, y.counts, y.fits));
-          long = holds-long y;
-        }
+        record { built = record { counts = y.counts; fits = omega (arith, y.counts, y.fits); lays = y.lays }; long = holds-long y }
 
-    module _ (here : i < length ws) (r : Builder) (to : List ℕ) (s : Stepped old (suc i) w (turn i (from ws i) w) r to) where
+    module _ (here : i < length ws) where
       after_turn : walk (suc i) (from ws (suc i)) (turn i (from ws i) w) ≡ walked ws
       after_turn = sym (walk_turn ws i here w) ∙ x.goes_on
 
       -- the builder goes on
-      pub building_more : r.records ≤ record_room (length old) → Building ws old (suc i) r to
-      building_more f =
-          ⊎_elim
-          (λ (y : Holds old (suc i) (turn i (from ws i) w) r to). record { so_far = turn i (from ws i) w; holds = y; goes_on = after_turn })
-          (λ (y : Full old w (turn i (from ws i) w) r to). absurd (omega (arith, f, y.stops)))
-          s
+      pub building_more : (r : Builder) (to : List ℕ) → Holds old (suc i) (turn i (from ws i) w) r to → Building ws old (suc i) r to
+      building_more r to y = record { so_far = turn i (from ws i) w; holds = y; goes_on = after_turn }
 
       -- a node has no record
-      missing : Full old w (turn i (from ws i) w) r to → Built ws old r to
+      pub building_full : (t : ℕ) (to : List ℕ) → Full old w (turn i (from ws i) w) t to → Built ws old (Err t) to
       unfolding walk
-      missing y =
+      building_full t to y =
           let n = record_room (length old) in
           let split = events-from_here ws i here in
           let e = event_in (get_or ws i 0) in
           let es = map event_in (drop (suc i) ws) in
           let whole : walk (suc i) es (turn i (e ∷ es) w) ≡ walked ws = sym (ap (λ (ds : List Event). walk i ds w) split) ∙ x.goes_on in
           let lacks = first-without_record i e es w n y.before (subst (λ (ds : List Event). n < length (turn i ds w).rows) split y.behind) in
-          let more : n < length (walked ws).rows = subst (λ (v : Walk). n < length v.rows) whole lacks.0 in
           record {
-            counts = λ f. absurd (omega (arith, f, y.stops));
-            lays = λ f. absurd (omega (arith, f, y.stops));
-            lacks = λ t. more;
-            names = λ t. y.takes ∙ sym lacks.1 ∙ ap (λ (v : Walk). get_or (map first_of v.rows) n 0) whole;
+            built = record {
+              lacks = subst (λ (v : Walk). n < length v.rows) whole lacks.0;
+              names = y.takes ∙ sym lacks.1 ∙ ap (λ (v : Walk). get_or (map first_of v.rows) n 0) whole;
+            };
             long = y.long;
           }
-
-      pub building_full : record_room (length old) < r.records → Built ws old r to
-      building_full t =
-          ⊎_elim
-          (λ (y : Holds old (suc i) (turn i (from ws i) w) r to). absurd (omega (arith, t, y.counts, y.fits)))
-          (λ (y : Full old w (turn i (from ws i) w) r to). missing y)
-          s

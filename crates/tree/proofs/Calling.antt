@@ -7,6 +7,7 @@ use mathlib.Core.Path.{◌≡◌, refl, sym, ap, ◌∙◌}
 use mathlib.Core.List.{List, [], ◌∷◌, map}
 use lib.ListN.{length, get_or, take, replicate}
 use borrow.Author.Tests.{lt-ltb, le-ltb}
+use Rattle.std.specs.Prelude.{Ok, Err}
 use Rattle.predictive.specs.Events.{Event, start}
 use Rattle.predictive.specs.Events as E
 use Rattle.aadl.specs.declared.Answer.{Answer}
@@ -28,7 +29,6 @@ use Rattle.aadl.proofs.Extending.{did-same, on-refused, own-refuses, none-refuse
 use Rattle.aadl.proofs.CallsRead.{section-sound}
 use Rattle.aadl.proofs.TreeCalls.{tree-promised}
 use Rattle.section.proofs.Unrefused.{all-passed, event_words-counted, event_words-long, events-told}
-use Rattle.tree.specs.declared.Builder.{Builder}
 use Rattle.tree.specs.Walk.{walk, root}
 use Rattle.tree.specs.Builders.{laid, walked, Built}
 use Rattle.tree.proofs.Walking.{walk-records}
@@ -84,27 +84,23 @@ module _ {limits : Limits} {text old last : List ℕ} {a : Answer} {ts es : List
         let long : length counted ≡ length (events limits (symbols text)) = omega (arith, length_first_words (take (words_for a.events) es), event_words-long c z) in
         (omega (arith, long, some-event limits (symbols text)), omega (arith, long, (all-passed c z).few))
 
-    -- b is what was built of them, rs the record words, where the words rows were lent
-    module _ {rows : List ℕ} {b : Builder} {rs : List ℕ} (x : Built counted rows b rs) where
-      abbrev all : List Record
-      all = text_records limits text
+    abbrev all : List Record
+    all = text_records limits text
 
-      built_rows : (walked counted).rows ≡ all
-      built_rows =
-          walk_of-text limits text counted (events-told c z)
-          (ap (λ (ws : List ℕ). kind_in (get_or (first_words ws) 0 0)) (event_words-counted c z) ∙ root-kind limits text)
+    built_rows : (walked counted).rows ≡ all
+    built_rows =
+        walk_of-text limits text counted (events-told c z)
+        (ap (λ (ws : List ℕ). kind_in (get_or (first_words ws) 0 0)) (event_words-counted c z) ∙ root-kind limits text)
 
-      same-room : record_room (length rs) ≡ record_room (length rows)
-      same-room = ap record_room x.long
-
-      pub called-full : (r : TreeAnswer) (place : ℕ) (us fs qs : List ℕ) → record_room (length rs) < b.records → place ≡ start_of text b.taken → r ≡ tree_refused 7 place →
+    -- what was built of them, rs being the record words, where the words rows were lent
+    module _ {rows rs : List ℕ} where
+      pub called-full : {t : ℕ} (x : Built counted rows (Err t) rs) (r : TreeAnswer) (place : ℕ) (us fs qs : List ℕ) → place ≡ start_of text t → r ≡ tree_refused 7 place →
           length ts ≡ length old → length es ≡ length last →
           us ≡ replicate (length ts) 0 → fs ≡ replicate (length es) 0 → qs ≡ replicate (length rs) 0 → TreeCalled limits text old last rows r us fs qs
       unfolding tree_call section_call tokens_call
-      called-full r place us fs qs f p g lt le wt we wr =
-          let lacking : record_room (length rows) < b.records = omega (arith, f, same-room) in
-          let behind : record_room (length rows) < length all = omega (arith, x.lacks lacking, ap length built_rows) in
-          let first = x.names lacking ∙ ap (λ (l : List Record). get_or (map (λ (q : Record). q.first) l) (record_room (length rows)) 0) built_rows in
+      called-full x r place us fs qs p g lt le wt we wr =
+          let behind : record_room (length rows) < length all = omega (arith, x.built.lacks, ap length built_rows) in
+          let first = x.built.names ∙ ap (λ (l : List Record). get_or (map (λ (q : Record). q.first) l) (record_room (length rows)) 0) built_rows in
           tree-promised limits text old last rows
           (did-same
           (own-refuses (section-sound limits text old last) (recording limits text rows) c.did z
@@ -112,13 +108,12 @@ module _ {limits : Limits} {text old last : List ℕ} {a : Answer} {ts es : List
           (rw (lt-ltb (record_room (length rows)) (length all) behind) refl) (λ h. omega (arith, h)))
           (g ∙ ap (tree_refused 7) (p ∙ ap (start_of text) first)) (λ i. (wt ∙ zeros lt) i ∷ (we ∙ zeros le) i ∷ (wr ∙ zeros x.long) i ∷ []))
 
-      pub called-built : b.records ≤ record_room (length rs) → TreeCalled limits text old last rows (with_records a b.records) ts es rs
+      pub called-built : {n : ℕ} → Built counted rows (Ok n) rs → TreeCalled limits text old last rows (with_records a n) ts es rs
       unfolding tree_call
-      called-built f =
-          let enough : b.records ≤ record_room (length rows) = omega (arith, f, same-room) in
-          let few : length all ≤ record_room (length rows) = omega (arith, enough, x.counts enough, ap length built_rows) in
+      called-built x =
+          let few : length all ≤ record_room (length rows) = omega (arith, x.built.fits, x.built.counts, ap length built_rows) in
           tree-promised limits text old last rows
           (did-same
           (none-refuses (section-sound limits text old last) (recording limits text rows) c.did z (with_records a (length all))
           (rw (le-ltb (record_room (length rows)) (length all) few) refl) z)
-          (ap (with_records a) (x.counts enough ∙ ap length built_rows)) (λ i. ts ∷ es ∷ (x.lays enough ∙ ap (λ (l : List Record). laid l rows) built_rows) i ∷ []))
+          (ap (with_records a) (x.built.counts ∙ ap length built_rows)) (λ i. ts ∷ es ∷ (x.built.lays ∙ ap (λ (l : List Record). laid l rows) built_rows) i ∷ []))

@@ -2,7 +2,7 @@
 -- gives. So each turn takes the last link off (Chains), and its record is written first (Laid). Assumes nothing.
 use Prim.Native.Nat.{ℕ, suc, ◌+◌, ◌*◌, ◌-◌, ◌≤◌, ◌<◌}
 use native.Mathlib.Omega.{arith}
-use mathlib.Core.Path.{◌≡◌, refl, sym, ap, ◌∙◌}
+use mathlib.Core.Path.{◌≡◌, sym, ap, ◌∙◌}
 use mathlib.Core.List.{List, [], ◌∷◌, ◌++◌, map}
 use lib.ListN.{length, get_or, length-append}
 use lib.Seq.{sets, length-sets}
@@ -38,17 +38,6 @@ parent-later p n number h f =
     omega (arith, ap (last-parent p n) z, f, h)
 
 module _ (ws old : List ℕ) (p n t i : ℕ) where
-  pub writing_begins : (m : ℕ) → m ≡ length (links 0 (map event_in ws) i) → Writing ws old p n t i i (n + m) old
-  writing_begins m e =
-      record { ahead = links 0 (map event_in ws) i; counts = ap (λ (k : ℕ). n + k) e; next = λ h. refl; long = refl; same = refl }
-
-  pub writing_done : (at : ℕ) (words : List ℕ) → Writing ws old p n t i at n words → words ≡ over p n t (links 0 (map event_in ws) i) old
-  writing_done at words x = go x.ahead (omega (arith, x.counts)) x.same
-    where
-      go : (ls : List Link) → length ls ≡ 0 → over p n t ls words ≡ over p n t (links 0 (map event_in ws) i) old → words ≡ over p n t (links 0 (map event_in ws) i) old
-      go [] e s = s
-      go (l ∷ ls) e s = absurd (omega (arith, e))
-
   module _ (at number : ℕ) (words : List ℕ) (x : Writing ws old p n t i at number words) (h : n < number) where
     some-ahead : 1 ≤ length x.ahead
     some-ahead = omega (arith, x.counts, h)

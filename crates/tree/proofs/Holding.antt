@@ -3,7 +3,6 @@
 use Prim.Native.Nat.{ℕ, suc, ◌+◌, ◌*◌, ◌-◌, ◌≤◌, ◌<◌}
 use native.Mathlib.Omega.{arith}
 use mathlib.Core.Path.{◌≡◌, sym, ap, ap₂, subst, ◌∙◌}
-use mathlib.Core.Logic.{inl, inr}
 use mathlib.Core.Bool.{Bool, cond}
 use mathlib.Core.List.{List}
 use lib.ListN.{length, get_or, drop, set, length-append, length-set}
@@ -14,10 +13,10 @@ use Rattle.aadl.specs.Limits.{most_events}
 use Rattle.aadl.specs.Records.{words_of_records, record_room}
 use Rattle.tree.specs.declared.Builder.{Builder}
 use Rattle.tree.specs.Walk.{Link, links, opened, Walk, innermost_row, with_links, begun, counted, closed}
-use Rattle.tree.specs.Builders.{laid, Holds, Stepped}
+use Rattle.tree.specs.Builders.{laid, Holds, Full}
 use Rattle.tree.proofs.Chains.{length_opened, links-length, links-drop}
 use Rattle.tree.proofs.Laid.{with_below, length_laid, laid-parent, laid-first, laid-below, laid-changed, laid_more}
-use Rattle.tree.proofs.Sounding.{sound-later, sound-counted, sound-closed, sound-links, innermost-parent, innermost-first}
+use Rattle.tree.proofs.Sounding.{sound-later, sound-counted, sound-closed, sound-links, innermost-first}
 
 abbrev pub builder : (records innermost taken : ℕ) → Builder
 builder n p t = record { records = n; innermost = p; taken = t }
@@ -34,9 +33,6 @@ module _ {old : List ℕ} {i : ℕ} {w : Walk} {b : Builder} {words : List ℕ} 
   at-innermost : (j : ℕ) {n : ℕ} → get_or (laid w.rows old) (p * 4 + j) 0 ≡ n → get_or words (b.innermost * 4 + j) 0 ≡ n
   at-innermost j e = ap₂ (λ (l : List ℕ) (k : ℕ). get_or l (k * 4 + j) 0) x.lays x.opens ∙ e
 
-  pub holds-inside : b.innermost * 4 + 3 < length words
-  holds-inside = omega (arith, x.opens, x.sound.innermost_stands, x.fits, holds-long)
-
   pub holds-parent : get_or words (b.innermost * 4 + 1) 0 ≡ (innermost_row w).parent
   holds-parent = at-innermost 1 (laid-parent w.rows old p x.sound.innermost_stands)
 
@@ -47,9 +43,6 @@ module _ {old : List ℕ} {i : ℕ} {w : Walk} {b : Builder} {words : List ℕ} 
   holds-below = at-innermost 3 (laid-below w.rows old p x.sound.innermost_stands)
 
   -- small numbers
-  pub parent-stands : get_or words (b.innermost * 4 + 1) 0 < b.records
-  parent-stands = omega (arith, holds-parent, x.counts, innermost-parent i w x.sound)
-
   pub first_taken : get_or words (b.innermost * 4 + 2) 0 ≤ b.taken
   first_taken = omega (arith, holds-first, x.takes, innermost-first i w x.sound)
 
@@ -89,10 +82,10 @@ module _ {old : List ℕ} {i : ℕ} {w : Walk} {b : Builder} {words : List ℕ} 
   -- A START ------------------------------------------------------------------------------------------------------------
 
   -- one that was used
-  pub holds-used : (es : List Event) → get_or words (b.innermost * 4 + 3) 0 ≡ i → Stepped old (suc i) w (begun i es w) b words
+  pub holds-used : (es : List Event) → get_or words (b.innermost * 4 + 3) 0 ≡ i → Holds old (suc i) (begun i es w) b words
   holds-used es e =
       let same : begun i es w ≡ w = ap (λ (t : Bool). cond t w (with_links (links i es 0) w)) (eq-eqb (innermost_row w).below i (sym holds-below ∙ e)) in
-      inl (subst (λ (v : Walk). Holds old (suc i) v b words) (sym same) holds_later)
+      subst (λ (v : Walk). Holds old (suc i) v b words) (sym same) holds_later
 
   -- one that opens its chain
   module _ (all : List Event) (few : length all ≤ most_events) (other : get_or words (b.innermost * 4 + 3) 0 ≡ i → ⊥) where
@@ -112,10 +105,10 @@ module _ {old : List ℕ} {i : ℕ} {w : Walk} {b : Builder} {words : List ℕ} 
     -- with a record for each node
     pub holds_opened : (n : ℕ) (to : List ℕ) → n ≡ b.records + length (links 0 all i) → n ≤ record_room (length words) →
         to ≡ sets words (b.records * 4) (words_of_records (opened b.innermost b.records b.taken (links 0 all i))) →
-        Stepped old (suc i) w (begun i (drop i all) w) (builder n (n - 1) b.taken) to
+        Holds old (suc i) (begun i (drop i all) w) (builder n (n - 1) b.taken) to
     holds_opened n to e h f =
         let ls = links 0 all i in
-        inl (subst (λ (v : Walk). Holds old (suc i) v (builder n (n - 1) b.taken) to) (sym opens-chain)
+        subst (λ (v : Walk). Holds old (suc i) v (builder n (n - 1) b.taken) to) (sym opens-chain)
         (record {
           counts = omega (arith, e, x.counts, opened-length);
           opens = omega (arith, e, x.counts);
@@ -126,16 +119,15 @@ module _ {old : List ℕ} {i : ℕ} {w : Walk} {b : Builder} {words : List ℕ} 
               ∙ laid_more w.rows (opened p (length w.rows) w.taken ls) old (omega (arith, e, h, x.counts, holds-long, length_opened p (length w.rows) w.taken ls));
           fits = omega (arith, e, h, x.counts, holds-long, opened-length);
           sound = sound-links i w x.sound ls chain-few;
-        }))
+        })
 
     -- without
     pub holds-full : (n : ℕ) → n ≡ b.records + length (links 0 all i) → record_room (length words) < n →
-        Stepped old (suc i) w (begun i (drop i all) w) (builder n b.innermost b.taken) words
+        Full old w (begun i (drop i all) w) b.taken words
     holds-full n e h =
-        inr (record {
-          stops = omega (arith, h, ap record_room holds-long);
+        record {
           takes = x.takes;
           before = x.fits;
           behind = omega (arith, ap (λ (v : Walk). length v.rows) opens-chain, opened-length, e, h, x.counts, ap record_room holds-long);
           long = holds-long;
-        })
+        }

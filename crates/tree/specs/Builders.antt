@@ -1,5 +1,5 @@
 -- What the code keeps of a walk: its numbers in a Builder, its records in the first of the lent words. Assumes nothing.
-use Rattle.std.specs.Prelude.{ℕ, suc, ◌+◌, ◌*◌, ◌≤◌, ◌<◌, ◌≡◌, ◌⊎◌, List, ◌++◌, map, length, get_or, drop}
+use Rattle.std.specs.Prelude.{ℕ, suc, ◌+◌, ◌*◌, ◌≤◌, ◌<◌, ◌≡◌, Result, MatchResult, List, ◌++◌, map, length, get_or, drop}
 use Rattle.std.proofs.lemmas.List.Edits.{sets}
 use Rattle.predictive.specs.Events.{Event}
 use Rattle.aadl.specs.Slices.{Slice, held, MutSlice, before, after}
@@ -33,22 +33,29 @@ pub record Holds (old : List ℕ) (i : ℕ) (w : Walk) (b : Builder) (words : Li
   pub fits : length w.rows ≤ record_room (length old)
   pub sound : Sound i w
 
--- A builder for which a node of the walk v that follows w has no record: it needs more than there are, and stands where w does.
-pub record Full (old : List ℕ) (w v : Walk) (b : Builder) (words : List ℕ) : Type 0 where
-  pub stops : record_room (length old) < b.records
-  pub takes : b.taken ≡ w.taken
+-- It holds some walk, whatever words were lent.
+abbrev pub HoldsSome : (i : ℕ) → Builder → (words : List ℕ) → Type 0
+HoldsSome i b words = (old : List ℕ) × ((w : Walk) × Holds old i w b words)
+
+-- There is an event i, one of not too many, and a builder holds a walk before it.
+abbrev pub CanTurn : (events records : List ℕ) → (i : ℕ) → Builder → Type 0
+CanTurn events records i b = (i < length (first_words events)) × (length (first_words events) ≤ most_events) × HoldsSome i b records
+
+-- A node of the walk v that follows w has no record, and t is its first token's number.
+pub record Full (old : List ℕ) (w v : Walk) (t : ℕ) (words : List ℕ) : Type 0 where
+  pub takes : t ≡ w.taken
   pub before : length w.rows ≤ record_room (length old)
   pub behind : record_room (length old) < length v.rows
   pub long : length words ≡ length old
 
--- What a builder is after an event, where the walk was w and is v.
-abbrev pub Stepped : (old : List ℕ) → (i : ℕ) → (w v : Walk) → Builder → (words : List ℕ) → Type 0
-Stepped old i w v b words = Holds old i v b words ⊎ Full old w v b words
+-- What an event does to a builder, b behind it, where the walk was w and is v.
+abbrev pub Stepped : {T : Type 0} → (old : List ℕ) → (i : ℕ) → (w v : Walk) → Result T ℕ → (b : Builder) → (words : List ℕ) → Type 0
+Stepped old i w v r b words = MatchResult r (λ _. Holds old i v b words) (λ t. Full old w v t words)
 
 -- An event does to a builder and the lent words what the step f does to the walk.
-abbrev pub StepsBy : (f : ℕ → List Event → Walk → Walk) → (events : Slice) → (records : MutSlice) → (i : ℕ) → (b r : Builder) → Type 0
-StepsBy f events records i b r =
-    (old : List ℕ) (w : Walk) → Holds old i w b (before records) → Stepped old (suc i) w (f i (drop i (told_by (held events))) w) r (after records)
+abbrev pub StepsBy : {T : Type 0} → (f : ℕ → List Event → Walk → Walk) → (events : Slice) → (records : MutSlice) → (i : ℕ) → (b : Builder) → Result T ℕ → (c : Builder) → Type 0
+StepsBy f events records i b r c =
+    (old : List ℕ) (w : Walk) → Holds old i w b (before records) → Stepped old (suc i) w (f i (drop i (told_by (held events))) w) r c (after records)
 
 -- The n Starts of the chain that begins with event i can be opened: each has room for a record, and the numbers fit words.
 abbrev pub CanOpen : (events records : List ℕ) → (i n : ℕ) → Builder → Type 0
@@ -65,11 +72,18 @@ chain_opened events i b old =
 abbrev pub walked : (first_words : List ℕ) → Walk
 walked ws = walk 0 (map event_in ws) (root (kind_in (get_or ws 0 0)))
 
--- What a builder gives for the events that the first words ws tell, the words old being lent: the records; or that one is missing, and
--- which token is the first below its node.
-pub record Built (ws old : List ℕ) (b : Builder) (words : List ℕ) : Type 0 where
-  pub counts : b.records ≤ record_room (length old) → b.records ≡ length (walked ws).rows
-  pub lays : b.records ≤ record_room (length old) → words ≡ laid (walked ws).rows old
-  pub lacks : record_room (length old) < b.records → record_room (length old) < length (walked ws).rows
-  pub names : record_room (length old) < b.records → b.taken ≡ get_or (map (λ (r : Record). r.first) (walked ws).rows) (record_room (length old)) 0
+-- n is how many records the nodes of the events have that the first words ws tell, and they are laid into the words old.
+pub record Whole (ws old : List ℕ) (n : ℕ) (words : List ℕ) : Type 0 where
+  pub counts : n ≡ length (walked ws).rows
+  pub fits : n ≤ record_room (length old)
+  pub lays : words ≡ laid (walked ws).rows old
+
+-- A record is missing among the words old, and t is the number of the first token below its node.
+pub record Lacks (ws old : List ℕ) (t : ℕ) : Type 0 where
+  pub lacks : record_room (length old) < length (walked ws).rows
+  pub names : t ≡ get_or (map (λ (r : Record). r.first) (walked ws).rows) (record_room (length old)) 0
+
+-- What is built of the events that the first words ws tell, the words old being lent.
+pub record Built (ws old : List ℕ) (r : Result ℕ ℕ) (words : List ℕ) : Type 0 where
+  pub built : MatchResult r (λ n. Whole ws old n words) (λ t. Lacks ws old t)
   pub long : length words ≡ length old

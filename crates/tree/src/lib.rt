@@ -11,16 +11,15 @@ ghost use Rattle.aadl.specs.Answers.{token_words};
 ghost use Rattle.aadl.specs.Records.{of_node, words_of_records, with_records};
 ghost use Rattle.aadl.specs.Promises.{MakesTreeCall};
 ghost use Rattle.tree.specs.Walk.{links, opened, Walk, begun, closed, turn};
-ghost use Rattle.tree.specs.Builders.{CanOpen, chain_opened, Holds, StepsBy, Built};
+ghost use Rattle.tree.specs.Builders.{CanOpen, chain_opened, Holds, HoldsSome, CanTurn, StepsBy, Built};
 
-use aadl::{Answer, Limits, TreeAnswer};
+use aadl::{Answer, Limits, Refusal, TreeAnswer};
 use codec::{EVENT_WORDS, class_in, events_told, first_word, kind_in, last_in};
 use lexer::{BASE, clear, refuse};
-use parser::{new, pass};
+use parser::Tokens;
 use section::property_section_within;
 
-// A tree that is being built: how many records its nodes so far need, the innermost open node's record, the tokens taken. Where it
-// needs more records than there are, it is not built further.
+// A tree that is being built: how many records its nodes so far have, the innermost open node's record, the tokens taken.
 #[derive(Clone, Copy)]
 pub struct Builder {
     pub records: usize,
@@ -30,7 +29,7 @@ pub struct Builder {
 
 // CHAINS
 
-// How many Starts the chain has that begins with an event.
+// How many Starts the chain has that begins with an event. The loop goes along the chain's links, over no list in order.
 fn chain_length(events: &[u32], i: usize) -> usize
     ensures { result ≡ length (links 0 (told_by events.now) i) }
 {
@@ -65,143 +64,109 @@ fn put_record(
     ensures { records.new ≡ sets records.old (number * 4) (words_of_records (of_node kind parent first below ∷ [])) }
 {
     let at = number * 4;
-    records[at] = kind;
-    records[at + 1] = parent as u32;
-    records[at + 2] = first as u32;
-    records[at + 3] = below as u32;
-}
-
-// Opens the nodes of a chain of n Starts that begins with event i: from the chain's end, the innermost node first.
-fn open_chain(events: &[u32], records: &mut [u32], i: usize, n: usize, b: Builder)
-    requires { CanOpen events.now records.old i n b }
-    ensures { records.new ≡ chain_opened events.now i b records.old }
-{
-    let mut at = i;
-    let mut number = b.records + n;
-    while b.records < number {
-        number -= 1;
-        let w = first_word(events, at);
-        let parent = if number == b.records {
-            b.innermost
-        } else {
-            number - 1
-        };
-        put_record(records, number, kind_in(w), parent, b.taken, at);
-        at += last_in(w) as usize;
-    }
+    records[at..at + 4].copy_from_slice(&[kind, parent as u32, first as u32, below as u32]);
 }
 
 // EVENTS
 
-// A Start: it was used by an earlier one if it is the innermost open node's own; else it opens its chain.
-fn start(events: &[u32], records: &mut [u32], i: usize, b: Builder) -> Builder
-    requires { (i < length (first_words events.now)) × (length (first_words events.now) ≤ most_events) × ((old : List ℕ) × ((w : Walk) × Holds old i w b records.old)) }
-    ensures { StepsBy begun events records i b result }
-{
-    if records[b.innermost * 4 + 3] == i as u32 {
-        return b;
+impl Builder {
+    // Opens the nodes of a chain of n Starts that begins with event i: from the chain's end, the innermost node first.
+    fn open_chain(self, events: &[u32], records: &mut [u32], i: usize, n: usize)
+        requires { CanOpen events.now records.old i n self }
+        ensures { records.new ≡ chain_opened events.now i self records.old }
+    {
+        let mut at = i;
+        for number in (self.records..self.records + n).rev() {
+            let w = first_word(events, at);
+            let parent = if number == self.records {
+                self.innermost
+            } else {
+                number - 1
+            };
+            put_record(records, number, kind_in(w), parent, self.taken, at);
+            at += last_in(w) as usize;
+        }
     }
-    let n = chain_length(events, i);
-    let count = b.records + n;
-    if records.len() / 4 < count {
-        return Builder {
-            records: count,
-            innermost: b.innermost,
-            taken: b.taken,
-        };
-    }
-    open_chain(events, records, i, n, b);
-    Builder {
-        records: count,
-        innermost: count - 1,
-        taken: b.taken,
-    }
-}
 
-// A Finish: the innermost open node's record counts the tokens since its first.
-fn finish(records: &mut [u32], i: usize, b: Builder) -> Builder
-    requires { (i < most_events) × ((old : List ℕ) × ((w : Walk) × Holds old i w b records.old)) }
-    ensures { (old : List ℕ) (w : Walk) → Holds old i w b records.old → Holds old (suc i) (closed w) result records.new }
-{
-    let at = b.innermost * 4;
-    let parent = records[at + 1] as usize;
-    let first = records[at + 2] as usize;
-    records[at + 3] = (b.taken - first) as u32;
-    Builder {
-        records: b.records,
-        innermost: parent,
-        taken: b.taken,
+    // A Start: it was used by an earlier one if it is the innermost open node's own; else it opens its chain.
+    fn start(&mut self, events: &[u32], records: &mut [u32], i: usize) -> Result<(), usize>
+        requires { CanTurn events.now records.old i self.old }
+        ensures { StepsBy begun events records i self.old result self.new }
+    {
+        if records[self.innermost * 4 + 3] == i as u32 {
+            return Ok(());
+        }
+        let n = chain_length(events, i);
+        let count = self.records + n;
+        if records.len() / 4 < count {
+            return Err(self.taken);
+        }
+        self.open_chain(events, records, i, n);
+        self.records = count;
+        self.innermost = count - 1;
+        Ok(())
     }
-}
 
-// What an event does to the tree.
-fn turn(events: &[u32], records: &mut [u32], i: usize, b: Builder) -> Builder
-    requires { (i < length (first_words events.now)) × (length (first_words events.now) ≤ most_events) × ((old : List ℕ) × ((w : Walk) × Holds old i w b records.old)) }
-    ensures { StepsBy turn events records i b result }
-{
-    let class = class_in(first_word(events, i));
-    if class == 0 {
-        return start(events, records, i, b);
+    // A Finish: the innermost open node's record counts the tokens since its first.
+    fn finish(&mut self, records: &mut [u32], i: usize)
+        requires { (i < most_events) × HoldsSome i self.old records.old }
+        ensures { (old : List ℕ) (w : Walk) → Holds old i w self.old records.old → Holds old (suc i) (closed w) self.new records.new }
+    {
+        let at = self.innermost * 4;
+        let first = records[at + 2] as usize;
+        self.innermost = records[at + 1] as usize;
+        records[at + 3] = (self.taken - first) as u32;
     }
-    if class == 2 {
-        return finish(records, i, b);
+
+    // What an event does to the tree; or the number of the first token below a node that has no record.
+    fn turn(&mut self, events: &[u32], records: &mut [u32], i: usize) -> Result<(), usize>
+        requires { CanTurn events.now records.old i self.old }
+        ensures { StepsBy turn events records i self.old result self.new }
+    {
+        match class_in(first_word(events, i)) {
+            0 => return self.start(events, records, i),
+            1 => self.taken += 1,
+            2 => self.finish(records, i),
+            _ => (),
+        }
+        Ok(())
     }
-    if class == 1 {
-        return Builder {
-            records: b.records,
-            innermost: b.innermost,
-            taken: b.taken + 1,
-        };
-    }
-    b
 }
 
 // The records of the tree that events spell, into lent words: in one pass over the events, with no memory but these words. While a node
 // is open its fourth word holds the number of its Start's event. The root, whose Start is the first event, is open from the beginning.
-fn build(events: &[u32], records: &mut [u32]) -> Builder
+// How many records there are; or, where a node has none, the number of the first token below it.
+fn build(events: &[u32], records: &mut [u32]) -> Result<usize, usize>
     requires { (1 ≤ length (first_words events.now)) × (length (first_words events.now) ≤ most_events) }
     ensures { Built (first_words events.now) records.old result records.new }
 {
     if records.len() < 4 {
-        return Builder {
-            records: 1,
-            innermost: 0,
-            taken: 0,
-        };
+        return Err(0);
     }
-    let room = records.len() / 4;
     put_record(records, 0, kind_in(first_word(events, 0)), 0, 0, 0);
     let mut b = Builder {
         records: 1,
         innermost: 0,
         taken: 0,
     };
-    let told = events_told(events);
-    let mut i = 0;
-    while i < told {
-        b = turn(events, records, i, b);
-        if room < b.records {
-            return b;
-        }
-        i += 1;
+    for i in 0..events_told(events) {
+        b.turn(events, records, i)?;
     }
-    b
+    Ok(b.records)
 }
 
 // THE CALL
 
 // Where the non-trivia token with a number starts, or the text's length.
-fn token_place(text: &[u8], toks: &[u32], number: usize) -> usize
-    requires { (length text.now < 65536) × (toks.now ≡ token_words text.now) }
+fn token_place(text: &[u8], words: &[u32], number: usize) -> usize
+    requires { (length text.now < 65536) × (words.now ≡ token_words text.now) }
     ensures { result ≡ start_of text.now number }
 {
-    let mut p = new(text, toks, 0);
-    let mut k = 0;
-    while k < number {
-        p = pass(text, toks, p);
-        k += 1;
+    let mut tokens = Tokens::new(text, words);
+    for _ in 0..number {
+        tokens.pass();
     }
-    p.byte
+    tokens.byte
 }
 
 // A refusal of the tree call counts no record and zeroes their words.
@@ -231,15 +196,16 @@ pub fn property_tree_within(
     if a.number != 0 {
         return without_records(records, a);
     }
-    let b = build(&events[..a.events * EVENT_WORDS], records);
-    if records.len() / 4 < b.records {
-        let place = token_place(src, &tokens[..a.tokens], b.taken);
-        clear(events);
-        return without_records(records, refuse(tokens, 7, place));
-    }
-    TreeAnswer {
-        answer: a,
-        records: b.records,
+    match build(&events[..a.events * EVENT_WORDS], records) {
+        Ok(count) => TreeAnswer {
+            answer: a,
+            records: count,
+        },
+        Err(token) => {
+            let place = token_place(src, &tokens[..a.tokens], token);
+            clear(events);
+            without_records(records, refuse(tokens, Refusal::NoRecord as u32, place))
+        }
     }
 }
 

@@ -2,12 +2,12 @@
 -- Assumes nothing.
 use Prim.Native.Nat.{ℕ}
 use native.Mathlib.Omega.{arith}
-use mathlib.Core.Path.{◌≡◌, refl, ap, ◌∙◌}
+use mathlib.Core.Path.{◌≡◌, ap, ◌∙◌}
 use mathlib.Core.Bool.{Bool}
 use mathlib.Core.List.{List, [], ◌∷◌}
 use lib.ListN.{length, take, replicate}
-use lib.IntN.{pos}
-use borrow.Author.Tests.{eq-eqb, ne_eqb}
+use lib.IntN.{ℤ, pos}
+use Rattle.std.specs.Prelude.{Ok, Err}
 use Rattle.aadl.specs.declared.Answer.{Answer}
 use Rattle.aadl.specs.declared.ValueAnswer.{ValueAnswer}
 use Rattle.aadl.specs.declared.Limits.{Limits}
@@ -22,11 +22,17 @@ use Rattle.aadl.proofs.CallsRead.{section-sound}
 use Rattle.aadl.proofs.ValueCalls.{value-promised}
 use Rattle.section.proofs.Unrefused.{all-passed, passed-short, token_words-counted, event_words-counted}
 use Rattle.section.proofs.Demands.{clean-is_the_reading}
-use Rattle.value.specs.declared.Verdict.{Verdict}
-use Rattle.value.specs.Verdicts.{WasRead, judged, Judged}
+use Rattle.value.specs.declared.NoValue.{NoValue}
+use Rattle.value.specs.declared.NoValue.TheVariants.{NoConstant, Beyond}
+use Rattle.value.specs.Verdicts.{number_of, place_of, WasRead, Judged}
 
 zeros : {m n : ℕ} → m ≡ n → ◌≡◌ {A = List ℕ} (replicate m 0) (replicate n 0)
 zeros e = ap (λ (k : ℕ). replicate {A = ℕ} k 0) e
+
+-- no value is a refusal
+refuses : (w : NoValue) → number_of w ≡ 0 → ⊥
+refuses (NoConstant p) e = omega (arith, e)
+refuses (Beyond p) e = omega (arith, e)
 
 -- a is what the section call answered, ts and es the token and event words that it left
 module _ {limits : Limits} {text old last : List ℕ} {a : Answer} {ts es : List ℕ} (c : SectionCalled limits text old last a ts es) (k : ℕ) where
@@ -47,18 +53,15 @@ module _ {limits : Limits} {text old last : List ℕ} {a : Answer} {ts es : List
           cleanly = e ∙ clean-is_the_reading c h z;
         }
 
-    module _ {v : Verdict} (j : Judged limits text k v) where
-      pub called-judged : (r : ValueAnswer) (us fs : List ℕ) → (v.number ≡ 0 → ⊥) → r ≡ value_refused v.number v.place → length ts ≡ length old →
-          length es ≡ length last → us ≡ replicate (length ts) 0 → fs ≡ replicate (length es) 0 → ValueCalled limits text old last k r us fs
-      unfolding value_call section_call tokens_call judged
-      called-judged r us fs f g lt le wt we =
-          value-promised limits text old last k
-          (did-same
-          (own-refuses (section-sound limits text old last) (valuing limits text k) c.did z (value_refused v.number v.place) (j.decides a ∙ rw (ne_eqb v.number 0 f) refl) f)
-          g (λ i. (wt ∙ zeros lt) i ∷ (we ∙ zeros le) i ∷ []))
+    pub called-judged : {w : NoValue} → Judged limits text k (Err w) → (r : ValueAnswer) (us fs : List ℕ) → r ≡ value_refused (number_of w) (place_of w) → length ts ≡ length old →
+        length es ≡ length last → us ≡ replicate (length ts) 0 → fs ≡ replicate (length es) 0 → ValueCalled limits text old last k r us fs
+    unfolding value_call section_call tokens_call
+    called-judged {w} j r us fs g lt le wt we =
+        value-promised limits text old last k
+        (did-same (own-refuses (section-sound limits text old last) (valuing limits text k) c.did z (value_refused (number_of w) (place_of w)) (j.decides a) (refuses w)) g
+        (λ i. (wt ∙ zeros lt) i ∷ (we ∙ zeros le) i ∷ []))
 
-      pub called-valued : v.number ≡ 0 → ValueCalled limits text old last k (with_value a v.value) ts es
-      unfolding value_call judged
-      called-valued e =
-          value-promised limits text old last k
-          (none-refuses (section-sound limits text old last) (valuing limits text k) c.did z (with_value a v.value) (j.decides a ∙ rw (eq-eqb v.number 0 e) refl) z)
+    pub called-valued : {v : ℤ} → Judged limits text k (Ok v) → ValueCalled limits text old last k (with_value a v) ts es
+    unfolding value_call
+    called-valued {v} j =
+        value-promised limits text old last k (none-refuses (section-sound limits text old last) (valuing limits text k) c.did z (with_value a v) (j.decides a) z)

@@ -6,10 +6,10 @@ use mathlib.Core.Bool.{Bool, true, false}
 use mathlib.Core.List.{List, [], ◌∷◌, map}
 use Rattle.predictive.specs.Events.{Event, taken}
 use Rattle.aadl.specs.Encoding.{event_word, words_for, words_of}
-use Rattle.bands.specs.declared.Band.{Band}
+use Rattle.std.specs.declared.ops.Range.{Range}
 use Rattle.bands.specs.Bands.{within_band, nth_within}
 
-module _ (b : Band) (number : ℕ → ℕ) (none : (t : ℕ) → within_band b (number t) ≡ false) where
+module _ (b : Range ℕ) (number : ℕ → ℕ) (none : (t : ℕ) → within_band b (number t) ≡ false) where
   pub nth-first : (t n : ℕ) (es : List Event) → nth_within b n (words_of number t es) ≡ words_for (nth_within b n (map event_word es))
   unfolding nth_within
   nth-first t n [] = refl

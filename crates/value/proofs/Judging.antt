@@ -1,7 +1,7 @@
 -- What is found of an association's value, way by way: the text is not clean, has no such association, its first value is no constant, it
 -- leaves the range, or it comes to a number. Each gives a right verdict: words tell whether the text is clean and at which token the
 -- association starts, and the pass over its tokens tells its constant's outcome. Assumes nothing.
-use Prim.Native.Nat.{ℕ, suc, ◌+◌, ◌≤◌, ◌<◌}
+use Prim.Native.Nat.{ℕ, ◌+◌, ◌≤◌, ◌<◌}
 use native.Mathlib.Omega.{arith}
 use mathlib.Core.Path.{◌≡◌, refl, sym, ap, ◌∙◌}
 use mathlib.Core.Bool.{Bool, true, false, not}
@@ -9,17 +9,18 @@ use mathlib.Core.List.{List, [], map, append-nil}
 use mathlib.Core.Option.{Option, none, some}
 use lib.ListN.{length, get_or, take, drop, length-map, get_or-map}
 use lib.Dec.{ltb}
-use borrow.Author.Tests.{ltb-true, ltb-false, le-leb, lt-leb, eq-eqb, ne_eqb}
+use lib.IntN.{ℤ}
+use Rattle.std.specs.Prelude.{Some, None, Ok, Err}
+use borrow.Author.Tests.{ltb-true, ltb-false, le-leb, lt-leb}
 use Rattle.predictive.specs.Events.{Event, taken}
 use Rattle.predictive.proofs.Tests.{never, or_neither, or_true_l, or_true_r}
-use Rattle.aadl.specs.declared.Answer.{Answer}
 use Rattle.aadl.specs.declared.Limits.{Limits}
 use Rattle.aadl.specs.Tokens.{tokens, token_word}
 use Rattle.aadl.specs.Symbols.{symbols, start_of, raw_number}
 use Rattle.aadl.specs.Encoding.{event_word, event_in, words_for, words_of}
 use Rattle.aadl.specs.Reading.{events, reads_cleanly}
 use Rattle.aadl.specs.Values.{Constant, Outcome, exact, beyond, in_range, value, number_at, Association, association}
-use Rattle.aadl.specs.ValueCall.{nth_association, text_associations, with_value, value_refused}
+use Rattle.aadl.specs.ValueCall.{nth_association, text_associations, value_refused}
 use Rattle.aadl.proofs.Lists.{each_at}
 use Rattle.aadl.proofs.TokensCover.{tokens-within_text}
 use Rattle.aadl.proofs.RawNumbers.{raw_number-counted}
@@ -27,33 +28,22 @@ use Rattle.aadl.proofs.EventPairs.{length_words_of, first_words-of}
 use Rattle.aadl.proofs.EventWords.{words-tell_events}
 use Rattle.aadl.proofs.EventTokens.{token_named-is}
 use Rattle.aadl.proofs.ValueCalls.{lacks-it, refused-lacking, refused-no_constant, refused-beyond, value-passed}
+use Rattle.int64.specs.declared.Whole.{Whole}
 use Rattle.int64.specs.Integers.{integer}
 use Rattle.bands.specs.Bands.{tally, nth_within}
 use Rattle.bands.proofs.Counted.{nth-among, nth-none}
-use Rattle.evaluator.specs.declared.Outcome.{Outcome as Told}
-use Rattle.evaluator.specs.declared.Term.{Term}
 use Rattle.evaluator.specs.Pass.{past_arrow}
-use Rattle.evaluator.specs.Terms.{Held, held_exact, held_beyond, ValueRead, none_there, one_there, FirstValue}
+use Rattle.evaluator.specs.Terms.{Held, FirstValue}
 use Rattle.evaluator.proofs.Sums.{outcome}
 use Rattle.evaluator.proofs.FirstValues.{Right}
-use Rattle.value.specs.declared.Verdict.{Verdict}
+use Rattle.value.specs.declared.NoValue.TheVariants.{NoConstant, Beyond}
 use Rattle.value.specs.Words.{starting}
 use Rattle.value.specs.Starts.{starts_in}
-use Rattle.value.specs.Verdicts.{WasRead, judged, Judged}
+use Rattle.value.specs.Verdicts.{WasRead, Judged}
 use Rattle.value.proofs.AssociationStarts.{text-starts, text-valued}
 use Rattle.value.proofs.WordBands.{number-starts_not}
 use Rattle.value.proofs.FirstWords.{nth-first}
 use Rattle.value.proofs.StartWords.{starts-counted, start-found}
-
--- VERDICTS -------------------------------------------------------------------------------------------------------------
-
-refuses : (v : Verdict) (n p : ℕ) → v.number ≡ suc n → v.place ≡ p → (a : Answer) → judged a v ≡ value_refused (suc n) p
-unfolding judged
-refuses v n p e f a = rw (ne_eqb v.number 0 (λ h. omega (arith, e, h))) (λ i. value_refused (e i) (f i))
-
-values : (v : Verdict) → v.number ≡ 0 → (a : Answer) → judged a v ≡ with_value a v.value
-unfolding judged
-values v e a = rw (eq-eqb v.number 0 e) refl
 
 -- OUTCOMES -------------------------------------------------------------------------------------------------------------
 
@@ -80,41 +70,18 @@ comes_to none o e = never (ap given e)
 comes_to (some c) o e = record { constant = c; it_is = refl; comes = ap (or_else o) e }
 
 module _ (text : List ℕ) where
-  record Far (o : Outcome) (r : Told) : Type 0 where
-    token : ℕ
-    it_is : o ≡ beyond token
-    place : r.place ≡ start_of text token
+  -- an outcome that is beyond the range, and one that is in it
+  far : (o : Outcome) (p : ℕ) → Held text o (Err p) → (i : ℕ) × (o ≡ beyond i) × (p ≡ start_of text i)
+  far (exact z) p h = absurd h
+  far (beyond i) p h = (i, refl, h)
 
-  far : {o : Outcome} {r : Told} → Held text o r → r.beyond ≡ true → Far o r
-  far (held_exact e f g) b = never (sym e ∙ b)
-  far (held_beyond {i = i} e f) b = record { token = i; it_is = refl; place = f }
-
-  record Near (o : Outcome) (r : Told) : Type 0 where
-    it_is : o ≡ exact (integer r.whole)
-    fits : in_range (integer r.whole) ≡ true
-
-  near : {o : Outcome} {r : Told} → Held text o r → r.beyond ≡ false → Near o r
-  near (held_exact e f g) b = record { it_is = ap exact (sym f); fits = ap in_range f ∙ g }
-  near (held_beyond e f) b = never (sym b ∙ e)
-
-  -- by whether the pass gives a constant
-  no_value : {all : Option Outcome} {r : Term} → ValueRead text all r → r.constant ≡ false → all ≡ none
-  no_value (none_there e f) c = f
-  no_value (one_there o e h f) c = never (sym c ∙ e)
-
-  record ReadValue (all : Option Outcome) (r : Term) : Type 0 where
-    what : Outcome
-    held : Held text what r.outcome
-    it_is : all ≡ some what
-
-  some-value : {all : Option Outcome} {r : Term} → ValueRead text all r → r.constant ≡ true → ReadValue all r
-  some-value (none_there e f) c = never (sym e ∙ c)
-  some-value (one_there o e h f) c = record { what = o; held = h; it_is = f }
+  near : (o : Outcome) (w : Whole) → Held text o (Ok w) → (o ≡ exact (integer w)) × (in_range (integer w) ≡ true)
+  near (exact z) w h = (ap exact (sym h.0), ap in_range h.0 ∙ h.1)
+  near (beyond i) w h = absurd h
 
 -- A value that is in the range can be given.
-pub value-fits : (text : List ℕ) (f : ℕ) (t : Term) → FirstValue text f t → t.constant ≡ true → t.outcome.beyond ≡ false →
-    in_range (integer t.outcome.whole) ≡ true
-value-fits text f t x c b = (near text (some-value text x c).held b).fits
+pub value-fits : (text : List ℕ) (f : ℕ) (w : Whole) → FirstValue text f (Some (Ok w)) → in_range (integer w) ≡ true
+value-fits text f w x = (near text x.0 w x.1).1
 
 -- WAY BY WAY -----------------------------------------------------------------------------------------------------------
 
@@ -150,11 +117,11 @@ module _ {limits : Limits} {text toks ws : List ℕ} {clean : Bool} (x : WasRead
     its = nth_association k found
 
     -- Refusal 9 at the text's length, whatever words were lent.
-    lacking : (v : Verdict) → v.number ≡ 9 → v.place ≡ length text → lacks-it limits text k ≡ true → Judged limits text k v
-    lacking v e f h = record { decides = λ a. refused-lacking limits text k a h ∙ sym (refuses v 8 (length text) e f _) }
+    lacking : lacks-it limits text k ≡ true → Judged limits text k (Err (NoConstant (length text)))
+    lacking h = record { decides = λ a. refused-lacking limits text k a h }
 
-    pub judged-unclean : (v : Verdict) → v.number ≡ 9 → v.place ≡ length text → clean ≡ false → Judged limits text k v
-    judged-unclean v e f c = lacking v e f (or_true_l (not (reads_cleanly limits (symbols text))) _ (ap not (sym x.cleanly ∙ c)))
+    pub judged-unclean : clean ≡ false → Judged limits text k (Err (NoConstant (length text)))
+    judged-unclean c = lacking (or_true_l (not (reads_cleanly limits (symbols text))) _ (ap not (sym x.cleanly ∙ c)))
 
     -- the event of the association's Start, and its first word among all words
     abbrev start : ℕ
@@ -174,9 +141,9 @@ module _ {limits : Limits} {text toks ws : List ℕ} {clean : Bool} (x : WasRead
       as_many : length found ≡ tally starting firsts
       as_many = sym (length-map found (λ (a : Association). a.first)) ∙ ap length all-starts ∙ starts-counted firsts 0
 
-      pub judged-absent : (v : Verdict) → v.number ≡ 9 → v.place ≡ length text → length ws ≤ nth_within starting k ws → Judged limits text k v
-      judged-absent v e f h =
-          lacking v e f (or_true_r (not (reads_cleanly limits (symbols text))) _ (le-leb (length found) k (none_left (ltb k (tally starting firsts)) refl)))
+      pub judged-absent : length ws ≤ nth_within starting k ws → Judged limits text k (Err (NoConstant (length text)))
+      judged-absent h =
+          lacking (or_true_r (not (reads_cleanly limits (symbols text))) _ (le-leb (length found) k (none_left (ltb k (tally starting firsts)) refl)))
         where
           none_left : (t : Bool) → ltb k (tally starting firsts) ≡ t → length found ≤ k
           none_left true l =
@@ -217,41 +184,27 @@ module _ {limits : Limits} {text toks ws : List ℕ} {clean : Bool} (x : WasRead
         nothing-lacks = or_neither (not (reads_cleanly limits (symbols text))) _ (ap not c) (lt-leb (length found) k there)
 
         -- What the pass gives from there is the outcome of its constant.
-        module _ (t : Term) (p : FirstValue text its.first t) where
-          abbrev given-there : Option Outcome
-          given-there = past_arrow (number_at text) its.first (drop its.first (symbols text))
+        abbrev given-there : Option Outcome
+        given-there = past_arrow (number_at text) its.first (drop its.first (symbols text))
 
-          right : outcome its.constant ≡ given-there
-          right = each_at (Right (number_at text) (symbols text)) found k (association 0 none) there (text-valued limits text c)
+        right : outcome its.constant ≡ given-there
+        right = each_at (Right (number_at text) (symbols text)) found k (association 0 none) there (text-valued limits text c)
 
-          pub judged-no_constant : (v : Verdict) → v.number ≡ 9 → v.place ≡ start_of text its.first → t.constant ≡ false → Judged limits text k v
-          judged-no_constant v n q o =
-              let none_there = no_constant its.constant (right ∙ no_value text p o) in
-              record {
-                decides = λ a. refused-no_constant limits text k a nothing-lacks none_there ∙ sym (refuses v 8 (start_of text its.first) n q _);
-              }
+        pub judged-no_constant : FirstValue text its.first None → (p : ℕ) → p ≡ start_of text its.first → Judged limits text k (Err (NoConstant p))
+        judged-no_constant n p q =
+            record { decides = λ a. refused-no_constant limits text k a nothing-lacks (no_constant its.constant (right ∙ n)) ∙ ap (value_refused 9) (sym q) }
 
-          module _ (o : t.constant ≡ true) where
-            read : ReadValue text given-there t
-            read = some-value text p o
+        pub judged-beyond : (p : ℕ) → FirstValue text its.first (Some (Err p)) → Judged limits text k (Err (Beyond p))
+        judged-beyond p r =
+            let comes = comes_to its.constant r.0 (right ∙ r.2) in
+            let y = far text r.0 p r.1 in
+            record {
+              decides = λ a.
+                  refused-beyond limits text k a nothing-lacks comes.constant comes.it_is y.0 (comes.comes ∙ y.1) ∙ ap (value_refused 10) (sym y.2);
+            }
 
-            comes : Comes its.constant read.what
-            comes = comes_to its.constant read.what (right ∙ read.it_is)
-
-            pub judged-beyond : (v : Verdict) → v.number ≡ 10 → v.place ≡ t.outcome.place → t.outcome.beyond ≡ true → Judged limits text k v
-            judged-beyond v n q b =
-                let y = far text read.held b in
-                record {
-                  decides = λ a.
-                      refused-beyond limits text k a nothing-lacks comes.constant comes.it_is y.token (comes.comes ∙ y.it_is)
-                      ∙ sym (refuses v 9 (start_of text y.token) n (q ∙ y.place) _);
-                }
-
-            pub judged-valued : (v : Verdict) → v.number ≡ 0 → v.value ≡ integer t.outcome.whole → t.outcome.beyond ≡ false → Judged limits text k v
-            judged-valued v n q b =
-                let y = near text read.held b in
-                record {
-                  decides = λ a.
-                      value-passed limits text k a nothing-lacks comes.constant comes.it_is v.value (comes.comes ∙ y.it_is ∙ ap exact (sym q))
-                      ∙ sym (values v n _);
-                }
+        pub judged-valued : (w : Whole) (v : ℤ) → FirstValue text its.first (Some (Ok w)) → v ≡ integer w → Judged limits text k (Ok v)
+        judged-valued w v r q =
+            let comes = comes_to its.constant r.0 (right ∙ r.2) in
+            let y = near text r.0 w r.1 in
+            record { decides = λ a. value-passed limits text k a nothing-lacks comes.constant comes.it_is v (comes.comes ∙ y.0 ∙ ap exact (sym q)) }

@@ -1,5 +1,5 @@
 -- What is found of an association's value where the section call refuses nothing. Assumes nothing.
-use Rattle.std.specs.Prelude.{ℕ, ◌≤◌, ◌<◌, ◌≡◌, Bool, false, cond, List, length, eqb}
+use Rattle.std.specs.Prelude.{ℕ, ◌≤◌, ◌<◌, ◌≡◌, Bool, false, List, length, ℤ, Result, Ok, Err}
 use Rattle.aadl.specs.declared.Answer.{Answer}
 use Rattle.aadl.specs.declared.ValueAnswer.{ValueAnswer}
 use Rattle.aadl.specs.declared.Limits.{Limits}
@@ -8,7 +8,8 @@ use Rattle.aadl.specs.Symbols.{symbols}
 use Rattle.aadl.specs.Reading.{events, too_deep, reads_cleanly}
 use Rattle.aadl.specs.Answers.{checked, token_words, event_words}
 use Rattle.aadl.specs.ValueCall.{value_checks, with_value, value_refused, valuing}
-use Rattle.value.specs.declared.Verdict.{Verdict}
+use Rattle.value.specs.declared.NoValue.{NoValue}
+use Rattle.value.specs.declared.NoValue.TheVariants.{NoConstant, Beyond}
 
 -- A text that was read, cleanly or not: the token words and the event words are its own.
 pub record WasRead (limits : Limits) (text toks ws : List ℕ) (clean : Bool) : Type 0 where
@@ -19,10 +20,20 @@ pub record WasRead (limits : Limits) (text toks ws : List ℕ) (clean : Bool) : 
   pub few : length (events limits (symbols text)) ≤ most_events
   pub cleanly : clean ≡ reads_cleanly limits (symbols text)
 
+-- the number and the place of the refusal where there is no value
+abbrev pub number_of : NoValue → ℕ
+number_of (NoConstant p) = 9
+number_of (Beyond p) = 10
+
+abbrev pub place_of : NoValue → ℕ
+place_of (NoConstant p) = p
+place_of (Beyond p) = p
+
 -- The answer by a verdict, where the section call answered a.
-unfoldable pub judged : Answer → Verdict → ValueAnswer
-judged a v = cond (eqb v.number 0) (with_value a v.value) (value_refused v.number v.place)
+abbrev pub judged : Answer → Result ℤ NoValue → ValueAnswer
+judged a (Ok v) = with_value a v
+judged a (Err w) = value_refused (number_of w) (place_of w)
 
 -- A verdict that is right: where the section call answered a and refused nothing, the value call's own checks give the answer by it.
-pub record Judged (limits : Limits) (text : List ℕ) (number : ℕ) (v : Verdict) : Type 0 where
+pub record Judged (limits : Limits) (text : List ℕ) (number : ℕ) (v : Result ℤ NoValue) : Type 0 where
   pub decides : (a : Answer) → checked value_refused (value_checks limits text number) ((valuing limits text number).added a) ≡ judged a v

@@ -9,92 +9,88 @@ ghost use Rattle.aadl.specs.Limits.{base, Allowed};
 ghost use Rattle.aadl.specs.Symbols.{raw_number};
 ghost use Rattle.aadl.specs.Answers.{token_words};
 ghost use Rattle.aadl.specs.Promises.{MakesValueCall};
-ghost use Rattle.section.specs.Standing.{Passed};
+ghost use Rattle.section.specs.Reaching.{Reached};
 ghost use Rattle.value.specs.Words as W;
-ghost use Rattle.value.specs.Verdicts.{WasRead, Judged};
+ghost use Rattle.value.specs.Verdicts.{number_of, place_of, WasRead, Judged};
 
-use aadl::{Limits, ValueAnswer};
-use bands::{Band, find, sum_of_lengths};
+use aadl::{Limits, Refusal, ValueAnswer};
+use bands::{find, sum_of_lengths};
 use codec::{EVENT_WORDS, start_word};
 use evaluator::first_value;
 use int64::to_i64;
 use lexer::{BASE, clear, refuse};
-use parser::Parser;
+use parser::Tokens;
 use section::{is_clean, property_section_within};
+use std::ops::Range;
 use syntax_kind::PROPERTY_ASSOCIATION;
 
-// What is found of an association's value: the number and the place of a refusal; or 0, and the value.
+// Why an association has no value, and the place that is told: it is no constant, or beyond the range.
 #[derive(Clone, Copy)]
-pub struct Verdict {
-    pub number: u32,
-    pub place: usize,
-    pub value: i64,
+enum NoValue {
+    NoConstant(usize),
+    Beyond(usize),
+}
+
+impl NoValue {
+    // The number and the place of the refusal.
+    fn refusal(self) -> (u32, usize)
+        ensures { (result.0 ≡ number_of self) × (result.1 ≡ place_of self) }
+    {
+        match self {
+            NoValue::NoConstant(place) => (Refusal::NoConstant as u32, place),
+            NoValue::Beyond(place) => (Refusal::BeyondRange as u32, place),
+        }
+    }
 }
 
 // First words of events: Starts of an association.
-fn starting() -> Band
+fn starting() -> Range<u32>
     ensures { result ≡ W.starting }
 {
-    let from = start_word(PROPERTY_ASSOCIATION);
-    let to = start_word(PROPERTY_ASSOCIATION + 1);
-    Band { from, to }
+    start_word(PROPERTY_ASSOCIATION)..start_word(PROPERTY_ASSOCIATION + 1)
 }
 
-// A parser at the token with a raw number; at the text's end where that is the token count.
-fn seek(text: &[u8], toks: &[u32], at: usize) -> Parser
-    requires { (length text.now < 65536) × (toks.now ≡ token_words text.now) × (at ≤ length toks.now) }
-    ensures { (n : ℕ) → at ≡ raw_number text.now n → Passed text.now n result }
+// The tokens of a text from the one with a raw number on; none where that is the token count.
+fn seek<'a>(text: &'a [u8], words: &'a [u32], at: usize) -> Tokens<'a>
+    requires { (length text.now < 65536) × (words.now ≡ token_words text.now) × (at ≤ length words.now) }
+    ensures { (n : ℕ) → at ≡ raw_number text.now n → Reached text.now n result }
 {
-    let byte = sum_of_lengths(&toks[..at]);
-    Parser {
+    let byte = sum_of_lengths(&words[..at]);
+    Tokens {
+        text,
+        words,
         at,
         byte,
-        taken: 0,
-        used: 0,
-        left: 0,
-        stop: 0,
     }
 }
 
-// A refusal.
-fn refusal(number: u32, place: usize) -> Verdict
-    ensures { (result.number ≡ number) × (result.place ≡ place) }
+// The value of the association with a number, where a text was read, cleanly or not. It is no constant at the text's length where the text is
+// not clean or has no such association, and else at the association's start.
+fn judge(
+    text: &[u8],
+    words: &[u32],
+    events: &[u32],
+    clean: bool,
+    number: usize,
+) -> Result<i64, NoValue>
+    requires { (limits : Limits) × WasRead limits text.now words.now events.now clean }
+    ensures { (limits : Limits) → WasRead limits text.now words.now events.now clean → Judged limits text.now number result }
 {
-    Verdict {
-        number,
-        place,
-        value: 0,
-    }
-}
-
-// What is found of the value of the association with a number, where a text was read, cleanly or not: 9 at the text's length where it is
-// not clean or has no such association, at the association's start where its first value is no constant; 10; or the value.
-fn judge(text: &[u8], toks: &[u32], events: &[u32], clean: bool, number: usize) -> Verdict
-    requires { (limits : Limits) × WasRead limits text.now toks.now events.now clean }
-    ensures { (limits : Limits) → WasRead limits text.now toks.now events.now clean → Judged limits text.now number result }
-{
+    let absent = NoValue::NoConstant(text.len());
     if !clean {
-        return refusal(9, text.len());
+        return Err(absent);
     }
-    let at = find(events, starting(), number);
-    if events.len() <= at {
-        return refusal(9, text.len());
-    }
+    let Some(at) = find(events, starting(), number) else {
+        return Err(absent);
+    };
     let first = events[at + 1] as usize;
-    let p = seek(text, toks, first);
-    let t = first_value(text, toks, p);
-    if !t.constant {
-        return refusal(9, p.byte);
-    }
-    let o = t.outcome;
-    if o.beyond {
-        return refusal(10, o.place);
-    }
-    let value = to_i64(o.whole);
-    Verdict {
-        number: 0,
-        place: 0,
-        value,
+    let tokens = seek(text, words, first);
+    let Some(value) = first_value(tokens) else {
+        return Err(NoValue::NoConstant(tokens.byte));
+    };
+    match value {
+        Ok(whole) => Ok(to_i64(whole)),
+        Err(place) => Err(NoValue::Beyond(place)),
     }
 }
 
@@ -120,23 +116,22 @@ pub fn association_value_within(
         };
     }
     let clean = is_clean(a, tokens, events);
-    let v = judge(
+    match judge(
         src,
         &tokens[..a.tokens],
         &events[..a.events * EVENT_WORDS],
         clean,
         number,
-    );
-    if v.number != 0 {
-        clear(events);
-        return ValueAnswer {
-            answer: refuse(tokens, v.number, v.place),
-            value: 0,
-        };
-    }
-    ValueAnswer {
-        answer: a,
-        value: v.value,
+    ) {
+        Ok(value) => ValueAnswer { answer: a, value },
+        Err(why) => {
+            let (refused, place) = why.refusal();
+            clear(events);
+            ValueAnswer {
+                answer: refuse(tokens, refused, place),
+                value: 0,
+            }
+        }
     }
 }
 

@@ -3,78 +3,75 @@
 
 #![tactic(auto)]
 
-ghost use Rattle.std.specs.Prelude.{◌≤◌, min, ◌≡◌, [], ◌∷◌, length, drop};
+ghost use Rattle.std.specs.Prelude.{◌-◌, ◌≤◌, ◌≡◌, [], ◌∷◌, length};
 ghost use Rattle.aadl.specs.Listing.{decimal};
-ghost use Rattle.writing.specs.Written.{Writes};
 ghost use Rattle.writing.specs.SignedDecimal.{signed_decimal};
 
-use int64::from_i64;
+use itoa::{Buffer, Integer};
 
-// The lesser of two.
-pub fn least(a: usize, b: usize) -> usize
-    ensures { result ≡ min a b }
-{
-    if a < b { a } else { b }
+// Lent bytes, and the place behind what is written into them, which is never past their end. It is no `fmt::Write`: of `write!` std says what is written only where the answer is Ok, and
+// of no writer that it is.
+#[derive(Drop)]
+pub struct Writer<'a> {
+    pub out: &'a mut [u8],
+    pub at: usize,
+    ghost within: { at ≤ length out.now },
 }
 
-// Writes one byte, and says where it ends.
-pub fn put_byte(out: &mut [u8], at: usize, b: u8) -> usize
-    ensures { Writes out at (b ∷ []) result }
-{
-    if at < out.len() {
-        out[at] = b;
-        return at + 1;
+impl<'a> Writer<'a> {
+    ghost use Rattle.writing.specs.Written.{Begins, Writes};
+
+    // Writes into lent bytes from a place on.
+    pub fn new(out: &'a mut [u8], at: usize) -> Writer<'a>
+        ensures { Begins out.entry at result }
+    {
+        let at = at.min(out.len());
+        Writer { out, at }
     }
-    out.len()
-}
 
-// Writes a text, and says where it ends.
-pub fn put_text(out: &mut [u8], at: usize, text: &[u8]) -> usize
-    ensures { Writes out at text.now result }
-{
-    let mut end = least(at, out.len());
-    let mut i = 0;
-    while i < text.len() {
-        end = put_byte(out, end, text[i]);
-        i += 1;
+    // How many bytes have room.
+    pub fn room(&self) -> usize
+        ensures { result ≡ length self.now.out.now - self.now.at }
+    {
+        self.out.len().saturating_sub(self.at)
     }
-    end
-}
 
-// A number's digits at the end of twenty bytes, and where they begin: from the right, the last one first.
-fn spell(n: u64, digits: &mut [u8]) -> usize
-    requires { length digits.old ≡ 20 }
-    ensures { (drop result digits.new ≡ decimal n) × (result ≤ 20) }
-{
-    let mut at = 20;
-    let mut rest = n;
-    while 9 < rest {
-        at -= 1;
-        digits[at] = 48 + (rest % 10) as u8;
-        rest = rest / 10;
+    // Writes one byte.
+    pub fn put_byte(&mut self, b: u8)
+        ensures { Writes self.old (b ∷ []) self.new }
+    {
+        self.put_text(&[b]);
     }
-    at -= 1;
-    digits[at] = 48 + rest as u8;
-    at
-}
 
-// Writes a number in decimal, and says where it ends.
-pub fn put_decimal(out: &mut [u8], at: usize, n: u64) -> usize
-    ensures { Writes out at (decimal n) result }
-{
-    let mut digits = [0u8; 20];
-    let from = spell(n, &mut digits);
-    put_text(out, at, &digits[from..])
-}
-
-// Writes a signed number in decimal, and says where it ends.
-pub fn put_signed(out: &mut [u8], at: usize, v: i64) -> usize
-    ensures { Writes out at (signed_decimal v) result }
-{
-    let w = from_i64(v);
-    if v < 0 {
-        let end = put_byte(out, at, b'-');
-        return put_decimal(out, end, w.size);
+    // Writes a text.
+    pub fn put_text(&mut self, text: &[u8])
+        ensures { Writes self.old text.now self.new }
+    {
+        let from = self.at.min(self.out.len());
+        let count = text.len().min(self.out.len() - from);
+        self.at = from + count;
+        self.out[from..from + count].copy_from_slice(&text[..count]);
     }
-    put_decimal(out, at, w.size)
+
+    // Writes a number as the library prints it.
+    pub fn put_integer<I: Integer>(&mut self, n: I)
+        ensures { Writes self.old (I.text n) self.new }
+    {
+        let mut digits = Buffer::new();
+        self.put_text(digits.format(n).as_bytes());
+    }
+
+    // Writes a number in decimal.
+    pub fn put_decimal(&mut self, n: u64)
+        ensures { Writes self.old (decimal n) self.new }
+    {
+        self.put_integer(n);
+    }
+
+    // Writes a signed number in decimal.
+    pub fn put_signed(&mut self, v: i64)
+        ensures { Writes self.old (signed_decimal v) self.new }
+    {
+        self.put_integer(v);
+    }
 }

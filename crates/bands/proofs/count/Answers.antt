@@ -1,26 +1,26 @@
--- One word at a turn: those counted so far, and those of what remains, are all (Counted). Assumes nothing.
-use Prim.Native.Nat.{ℕ, ◌≤◌}
+-- The words counted by a chain (Counted). Assumes nothing.
+use Prim.Native.Nat.{◌<◌, ◌^◌}
 use native.Mathlib.Omega.{arith}
-use mathlib.Core.Path.{◌≡◌, ap, ◌∙◌}
-use mathlib.Core.Bool.{Bool, true, false, cond}
-use borrow.Author.Rules.{rules}
-use Rattle.bands.proofs.Counted.{tally-more, tally-end}
+use mathlib.Core.Path.{◌≡◌, sym, ◌∙◌}
+use Rattle.std.specs.List.{count_by}
+use Rattle.std.proofs.Common.{rules}
+use Rattle.std.proofs.iter.runs.Sources.{sums}
+use Rattle.std.proofs.iter.runs.Made.{chains}
+use Rattle.std.proofs.lemmas.List.Sums.{count_by-le-length}
+use Rattle.bands.specs.Bands.{within_band}
+use Rattle.bands.proofs.Counted.{tally-counts}
 use Rattle.bands.proofs.count.Goals as goal
 
-at_most_one : (t : Bool) (n : ℕ) → n ≡ cond t 1 0 → n ≤ 1
-at_most_one true n e = omega (arith, e)
-at_most_one false n e = omega (arith, e)
-
-pub loop-i-preserved : goal.loop-i-preserved
-loop-i-preserved c =
-    let l = c.loop-i in
-    let a = c.args in
-    let more = tally-more a.b a.words.now l.i (search rules) in
-    let one = c.one_if-n.ensures ∙ ap (λ (t : Bool). cond t 1 0) c.within.ensures in
-    (omega (arith, l.invariant.0, more, one), omega (arith, l.invariant.1, at_most_one c.within.result c.one_if-n.result c.one_if-n.ensures), search rules)
+pub sum-n-requires-clause-fits : goal.sum-n-requires-clause-fits
+sum-n-requires-clause-fits c =
+    let band = c.args.band.now in
+    let words = c.args.words.now in
+    let few : count_by (within_band band) words < 2 ^ 32 = omega (arith, count_by-le-length (within_band band) words) in
+    search (rules, chains)
 
 pub returns : goal.returns
 returns c =
-    let l = c.loop-i in
-    let a = c.args in
-    omega (arith, l.invariant.0, tally-end a.b a.words.now l.i (search rules))
+    let band = c.args.band.now in
+    let words = c.args.words.now in
+    let counted : c.sum-n.result ≡ count_by (within_band band) words = search (rules, sums) in
+    counted ∙ sym (tally-counts band words)

@@ -1,12 +1,15 @@
 -- Many words at a turn: a part that has too few of them is passed as a whole (Counted). Assumes nothing.
 use Prim.Native.Nat.{◌+◌, ◌-◌, ◌≤◌}
 use mathlib.Core.Path.{◌≡◌}
-use lib.ListN.{length, drop}
+use lib.ListN.{length}
 use Rattle.bands.specs.Bands.{nth_within}
 use Rattle.bands.proofs.find.Given as goal
 
-abbrev pub invariant-loop-at : goal.invariant-loop-at
-invariant-loop-at l = (l.at + nth_within l.b l.left (drop l.at l.words) ≡ nth_within l.b l.number l.words) × (l.at ≤ length l.words)
+abbrev pub invariant-loop-stride : goal.invariant-loop-stride
+invariant-loop-stride l = record {
+  shorter : length l.rest ≤ length l.words;
+  left_to_find : nth_within l.band l.number l.words ≡ (length l.words - length l.rest) + nth_within l.band l.left l.rest;
+}
 
-abbrev pub decreases-loop-at : goal.decreases-loop-at
-decreases-loop-at l = length l.words - l.at
+abbrev pub decreases-loop-stride : goal.decreases-loop-stride
+decreases-loop-stride l = length l.rest

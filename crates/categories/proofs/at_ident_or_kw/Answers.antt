@@ -5,7 +5,8 @@ use lib.Dec.{eqb}
 use Rattle.predictive.specs.Grammar.{has}
 use Rattle.aadl.specs.Kinds.{IDENT, #◌}
 use Rattle.aadl.specs.Section.{keywords, names}
-use Rattle.parser.specs.Input.{input, END}
+use Rattle.parser.specs.Input.{END}
+use Rattle.parser.specs.Parsers.{source, counters}
 use Rattle.categories.proofs.Words.{kinds-are}
 use Rattle.categories.proofs.at_ident_or_kw.Goals as goal
 
@@ -16,6 +17,6 @@ no_name = refl
 pub returns : goal.returns
 unfolding names
 returns c =
-    let a = c.args in
+    let p = c.args.p.now in
     ap (λ (t : Bool). eqb c.current-kind.result (# IDENT) || t) c.is_keyword.ensures
-    ∙ kinds-are (input a.text.now a.toks.now) a.p names no_name c.current-kind.ensures
+    ∙ kinds-are (source p.tokens) (counters p) names no_name c.current-kind.ensures

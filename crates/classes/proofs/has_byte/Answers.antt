@@ -1,7 +1,7 @@
--- The range is of one byte. Assumes nothing.
+-- By induction over the bytes. Assumes nothing.
 use mathlib.Core.Path.{◌∙◌}
-use Rattle.classes.proofs.Chunks.{any-one}
+use Rattle.classes.proofs.Chunks.{any_has}
 use Rattle.classes.proofs.has_byte.Goals as goal
 
 pub returns : goal.returns
-returns c = let q = c in c.any_between.ensures ∙ any-one q.args.x q.requires q.args.s.now
+returns c = c.contains.ensures.value ∙ any_has c.args.x c.args.s.now

@@ -1,40 +1,31 @@
--- At once, or one byte at a turn from where the chunks end: the run from `i` on ends where the run from `from` on ends. The measure is what is left
--- of the text. Assumes nothing.
+-- At once, or behind the chunks that have none: the run from where they end ends where the run from `from` on ends. Assumes nothing.
+use Prim.Native.Nat.{ℕ, ◌+◌}
+use native.Mathlib.Nat.{le_refl}
+use native.Mathlib.Omega.{arith}
 use mathlib.Core.Path.{sym, ap, ◌∙◌}
 use mathlib.Core.Bool.{not}
-use Rattle.aadl.specs.Bytes.{run_end}
-use Rattle.aadl.proofs.RunLaws.{run_more, run-stop, run-over}
-use Rattle.classes.specs.Search.{unsought}
-use Rattle.classes.proofs.Chunks.{chunks_inside}
-use borrow.Author.Rules.{rules}
+use lib.ListN.{drop, length-drop}
+use Rattle.aadl.specs.Bytes.{run, run_end}
+use Rattle.aadl.proofs.RunLaws.{run-stop}
+use Rattle.aadl.proofs.TokenBounds.{run-within}
+use Rattle.classes.specs.Search.{unsought, chunks_end}
+use Rattle.classes.proofs.Chunks.{taken-run, chunks_inside}
 use Rattle.classes.proofs.next_between.Goals as goal
 
 pub returns-then-between : goal.returns-then-between
 returns-then-between c =
     let a = c.args in
-    (sym (run-stop (unsought a.least a.most) a.s.now a.from (search rules) (ap not (sym c.between.ensures ∙ c.if-between.true))), search rules)
-
-pub loop-i-init : goal.loop-i-init
-loop-i-init c =
-    let a = c.args in
-    let h = c.skip_chunks-i.ensures in
-    let class = unsought a.least a.most in
-    (ap (run_end class a.s.now) h.0 ∙ chunks_inside class a.s.now a.from, h.1)
-
-pub returns-then-between-2 : goal.returns-then-between-2
-returns-then-between-2 c =
-    let a = c.args in
-    let l = c.loop-i in
-    (sym (run-stop (unsought a.least a.most) a.s.now l.i (search rules) (ap not (sym c.between-in-loop-i.ensures ∙ c.if-between-2.true))) ∙ l.invariant.0, search rules)
-
-pub loop-i-preserved : goal.loop-i-preserved
-loop-i-preserved c =
-    let a = c.args in
-    let l = c.loop-i in
-    (sym (run_more (unsought a.least a.most) a.s.now l.i (search rules) (ap not (sym c.between-in-loop-i.ensures ∙ c.if-between-2.false))) ∙ l.invariant.0, search rules)
+    (sym (run-stop (unsought a.least a.most) a.s.now a.from c.if-from-s.true (ap not (sym c.between.ensures ∙ c.if-between.true))), c.requires, le_refl a.from)
 
 pub returns : goal.returns
+unfolding run_end chunks_end
 returns c =
     let a = c.args in
-    let l = c.loop-i in
-    (sym (run-over (unsought a.least a.most) a.s.now l.i (search rules)) ∙ l.invariant.0, search rules)
+    let class = unsought a.least a.most in
+    let i = c.skip_chunks-i.result in
+    let h = c.skip_chunks-i.ensures in
+    let n = c.gap.ensures ∙ taken-run class c.rest.result.now ∙ ap (run class) c.rest.ensures in (
+      ap (λ (k : ℕ). i + k) n ∙ ap (run_end class a.s.now) h.0 ∙ chunks_inside class a.s.now a.from,
+      omega (arith, n, run-within class (drop i a.s.now), length-drop i a.s.now, h.1),
+      omega (arith, h.0),
+    )

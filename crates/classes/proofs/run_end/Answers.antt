@@ -1,24 +1,18 @@
--- `classes::run_end` meets its contract. The loop's invariant: the run from `i` ends where the run from `from` ends. The measure is
--- what is left of the text. Assumes nothing.
-use mathlib.Core.Path.{sym, ◌∙◌}
+-- As many bytes as the run has stand at the front of the rest (Chunks). Assumes nothing.
+use Prim.Native.Nat.{ℕ, ◌+◌}
 use native.Mathlib.Omega.{arith}
-use borrow.Author.Rules.{rules}
-use Rattle.aadl.proofs.RunLaws.{run_more, run-stop, run-over}
+use mathlib.Core.Path.{ap, ◌∙◌}
+use lib.ListN.{drop, length-drop}
+use Rattle.aadl.specs.Bytes.{run, run_end}
+use Rattle.aadl.proofs.TokenBounds.{run-within}
+use Rattle.classes.specs.Classes.{member}
+use Rattle.classes.proofs.Chunks.{taken-run}
 use Rattle.classes.proofs.run_end.Goals as goal
 
-pub returns-then-not-in_class : goal.returns-then-not-in_class
-returns-then-not-in_class c = (
-  sym (run-stop _ _ _ (search rules) (sym c.in_class.ensures ∙ c.if-not-in_class.true))
-      ∙ c.loop-i.invariant.0,
-  omega arith,
-)
-
-pub loop-i-preserved : goal.loop-i-preserved
-loop-i-preserved c = (
-  sym (run_more _ _ _ (search rules) (sym c.in_class.ensures ∙ c.if-not-in_class.false))
-      ∙ c.loop-i.invariant.0,
-  omega arith,
-)
-
 pub returns : goal.returns
-returns c = (sym (run-over _ _ _ (search rules)) ∙ c.loop-i.invariant.0, omega arith)
+unfolding run_end
+returns c =
+    let a = c.args in
+    let p = member a.class in
+    let n = c.run.ensures ∙ taken-run p c.rest.result.now ∙ ap (run p) c.rest.ensures in
+    (ap (λ (k : ℕ). a.from + k) n, omega (arith, n, run-within p (drop a.from a.s.now), length-drop a.from a.s.now), omega arith)

@@ -1,77 +1,74 @@
--- Behind the signs stands no literal, one that breaks a rule, or one that is kept (Passing, Outcomes). Assumes nothing.
+-- Behind the signs stands no literal, one that breaks a rule, one beyond the range, or one that is kept (Passing, Literals). Assumes nothing.
 use Prim.Native.Nat.{ℕ}
-use native.Mathlib.Omega.{arith}
-use mathlib.Core.Path.{◌≡◌, refl, sym, subst, ◌∙◌}
-use mathlib.Core.List.{List, []}
+use mathlib.Core.Path.{◌≡◌, sym, subst, ◌∙◌}
+use mathlib.Core.Bool.{Bool, true}
+use mathlib.Core.List.{List}
 use lib.ListN.{drop}
-use borrow.Author.Tests.{not-true, not-false}
-use Rattle.aadl.specs.Answers.{token_words}
+use Rattle.std.specs.Prelude.{Option, Some, None, Result}
+use Rattle.int64.specs.declared.Whole.{Whole}
+use Rattle.aadl.specs.Bytes.{peek, is_digit}
 use Rattle.aadl.specs.Values.{literal_number, number_at}
-use Rattle.literals.specs.declared.Literal.{Literal}
-use Rattle.literals.specs.Capped.{LiteralOf}
-use Rattle.parser.specs.Input.{input, nth}
-use Rattle.section.proofs.Passing.{passed-one, passed-place}
-use Rattle.evaluator.specs.declared.Signed.{Signed}
-use Rattle.evaluator.specs.Terms.{ahead_at, SignsPassed}
-use Rattle.evaluator.proofs.Ahead.{passed-ahead, literal-begins}
-use Rattle.evaluator.proofs.Outcomes.{literal-broken, literal-kept, literal-held}
+use Rattle.literals.specs.Capped.{capped}
+use Rattle.parser.specs.declared.Tokens.{Tokens}
+use Rattle.section.proofs.Reaching.{reached-next, reached-place}
+use Rattle.evaluator.specs.Terms.{SignsPassed, OperandRead}
+use Rattle.evaluator.proofs.Ahead.{reached-ahead, literal-begins}
+use Rattle.evaluator.proofs.Literals.{none-told, some-told, literal-beyond, literal-kept}
 use Rattle.evaluator.proofs.Passing.{no_literal, broken-literal, whole-literal}
 use Rattle.evaluator.proofs.operand.Goals as goal
 
--- Behind the signs g the parser shows d.
-module _ (text : List ℕ) (k : ℕ) (g : Signed) (x : SignsPassed text k g) where
-  shown : (ws : List ℕ) → ws ≡ token_words text → (d : ℕ) → d ≡ nth (input text ws) g.p 0 → ahead_at text x.to ≡ d
-  shown ws w d e = sym (passed-ahead text x.to g.p x.stands ws w d e)
-
-  -- the literal there, by its token's number
-  literal-there : (n : Literal) → LiteralOf (literal_number (drop g.p.byte text)) n → LiteralOf (number_at text x.to) n
-  unfolding number_at
-  literal-there n e = subst (λ (b : ℕ). LiteralOf (literal_number (drop b text)) n) (passed-place text x.to g.p x.stands) e
+-- what is told of the literal where the tokens stand, by its token's number
+told : (text : List ℕ) (k : ℕ) (m : Bool) (t : Tokens) (x : SignsPassed text k m t) (r : Option ℕ) → r ≡ capped (literal_number (drop t.byte t.text.now)) →
+    r ≡ capped (number_at text x.to)
+unfolding number_at
+told text k m t x r e = e ∙ (λ i. capped (literal_number (drop (reached-place text x.to t x.stands i) (x.stands.text_is i))))
 
 pub returns-then-current-ne-INTEGER_LIT : goal.returns-then-current-ne-INTEGER_LIT
-returns-then-current-ne-INTEGER_LIT c =
-    let text = c.args.text.now in
-    let g = c.signs-s.result in (
-      λ k y.
-          let x = c.signs-s.ensures k y in
-          no_literal text k g x c.none.result (λ e. c.if-current-ne-INTEGER_LIT.true (sym (shown text k g x c.args.toks.now c.requires.1 _ c.current.ensures) ∙ e)) c.none.ensures.0,
-      omega (arith, c.none.ensures.1),
-    )
+returns-then-current-ne-INTEGER_LIT c = λ k y.
+    let text = c.args.tokens.now.text.now in
+    let t = c.signs-negative.new.tokens in
+    let m = c.signs-negative.result in
+    let x = c.signs-negative.ensures k y in
+    no_literal text k m t x (λ e. c.if-current-ne-INTEGER_LIT.true (reached-ahead text x.to t x.stands _ c.current.ensures ∙ e))
 
-pub literal_number-n-requires : goal.literal_number-n-requires
-literal_number-n-requires c =
-    let text = c.args.text.now in
-    let g = c.signs-s.result in
-    let k = c.requires.3.0 in
-    let x = c.signs-s.ensures k c.requires.3.1 in
-    (literal-begins text x.to g.p c.requires.0 x.stands (shown text k g x c.args.toks.now c.requires.1 _ c.current.ensures ∙ c.if-current-ne-INTEGER_LIT.false), c.requires.2)
+pub literal_number-requires : goal.literal_number-requires
+literal_number-requires c =
+    let text = c.args.tokens.now.text.now in
+    let t = c.signs-negative.new.tokens in
+    let x = c.signs-negative.ensures c.requires.0 c.requires.1 in
+    let shown = sym (reached-ahead text x.to t x.stands _ c.current.ensures) ∙ c.if-current-ne-INTEGER_LIT.false in
+    subst (λ (bs : List ℕ). is_digit (peek bs t.byte) ≡ true) (sym x.stands.text_is) (literal-begins text x.to t x.stands shown)
 
-pub returns-then-not-n : goal.returns-then-not-n
-returns-then-not-n c =
-    let text = c.args.text.now in
-    let g = c.signs-s.result in
-    let n = c.literal_number-n.result in (
-      λ k y.
-          let x = c.signs-s.ensures k y in
-          broken-literal text k g x c.none-then-not-n.result (shown text k g x c.args.toks.now c.requires.1 _ c.current.ensures ∙ c.if-current-ne-INTEGER_LIT.false)
-          (literal-broken (number_at text x.to) n (literal-there text k g x n c.literal_number-n.ensures) (not-true n.good c.if-not-n.true)) c.none-then-not-n.ensures.0,
-      omega (arith, c.none-then-not-n.ensures.1),
-    )
+pub returns-in_err-size : goal.returns-in_err-size
+returns-in_err-size c = λ k y.
+    let text = c.args.tokens.now.text.now in
+    let t = c.signs-negative.new.tokens in
+    let m = c.signs-negative.result in
+    let x = c.signs-negative.ensures k y in
+    let shown = sym (reached-ahead text x.to t x.stands _ c.current.ensures) ∙ c.if-current-ne-INTEGER_LIT.false in
+    let none = none-told (number_at text x.to) (told text k m t x None c.in_err-size.ensures) in
+    subst (λ (r : Option (Result Whole ℕ)). OperandRead text k r t) (sym c.from_residual.ensures) (broken-literal text k m t x shown none)
+
+pub returns-then-size-ge-MOST : goal.returns-then-size-ge-MOST
+returns-then-size-ge-MOST c = λ k y.
+    let text = c.args.tokens.now.text.now in
+    let t = c.signs-negative.new.tokens in
+    let m = c.signs-negative.result in
+    let n = c.in_ok-size.size in
+    let x = c.signs-negative.ensures k y in
+    let shown = sym (reached-ahead text x.to t x.stands _ c.current.ensures) ∙ c.if-current-ne-INTEGER_LIT.false in
+    let v = some-told (number_at text x.to) n (told text k m t x (Some n) c.in_ok-size.ensures) in
+    whole-literal text k m t x shown v.0 _ c.pass.new.self v.1 (reached-next text x.to t x.stands c.pass.new.self c.pass.ensures)
+    (literal-beyond text x.to m v.0 n v.2 t.byte (reached-place text x.to t x.stands) c.if-size-ge-MOST.true)
 
 pub returns : goal.returns
-returns c =
-    let text = c.args.text.now in
-    let ws = c.args.toks.now in
-    let g = c.signs-s.result in
-    let n = c.literal_number-n.result in
-    let good = not-false n.good c.if-not-n.false in (
-      λ k y.
-          let x = c.signs-s.ensures k y in
-          let v = literal-kept (number_at text x.to) n (literal-there text k g x n c.literal_number-n.ensures) good in
-          whole-literal text k g x _ (shown text k g x ws c.requires.1 _ c.current.ensures ∙ c.if-current-ne-INTEGER_LIT.false) v.0 v.1.0 refl
-          (passed-one text ws c.requires.1 x.to g.p c.pass-next.result x.stands (c.pass-next.ensures []))
-          (literal-held text x.to g.p.byte g.negative v.0 n.size (passed-place text x.to g.p x.stands) v.1.1),
-      let k = c.requires.3.0 in
-          let x = c.signs-s.ensures k c.requires.3.1 in
-          omega (arith, (literal-kept (number_at text x.to) n (literal-there text k g x n c.literal_number-n.ensures) good).1.1),
-    )
+returns c = λ k y.
+    let text = c.args.tokens.now.text.now in
+    let t = c.signs-negative.new.tokens in
+    let m = c.signs-negative.result in
+    let n = c.in_ok-size.size in
+    let x = c.signs-negative.ensures k y in
+    let shown = sym (reached-ahead text x.to t x.stands _ c.current.ensures) ∙ c.if-current-ne-INTEGER_LIT.false in
+    let v = some-told (number_at text x.to) n (told text k m t x (Some n) c.in_ok-size.ensures) in
+    whole-literal text k m t x shown v.0 _ c.pass.new.self v.1 (reached-next text x.to t x.stands c.pass.new.self c.pass.ensures)
+    (literal-kept text x.to m v.0 n v.2 c.if-size-ge-MOST.false)

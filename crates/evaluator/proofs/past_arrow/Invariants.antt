@@ -1,13 +1,11 @@
 -- One token at a turn (Passing). The measure is what remains. Assumes nothing.
 use Prim.Native.Nat.{ℕ}
-use lib.ListN.{length}
-use Rattle.parser.specs.Input.{input, rest}
-use Rattle.section.specs.Standing.{Passed}
-use Rattle.evaluator.proofs.Passing.{BeforeArrow}
+use Rattle.section.specs.Reaching.{Reached}
+use Rattle.evaluator.proofs.Passing.{left, BeforeArrow}
 use Rattle.evaluator.proofs.past_arrow.Given as goal
 
-abbrev pub invariant-loop-q : goal.invariant-loop-q
-invariant-loop-q l = (k : ℕ) → Passed l.text k l.initial.q → BeforeArrow l.text k l.q
+abbrev pub invariant-loop-tokens : goal.invariant-loop-tokens
+invariant-loop-tokens l = (k : ℕ) → Reached l.initial.tokens.text.now k l.initial.tokens → BeforeArrow l.initial.tokens.text.now k l.tokens
 
-abbrev pub decreases-loop-q : goal.decreases-loop-q
-decreases-loop-q l = length (rest (input l.text l.toks) l.q)
+abbrev pub decreases-loop-tokens : goal.decreases-loop-tokens
+decreases-loop-tokens l = left l.tokens

@@ -1,19 +1,12 @@
--- One product at a turn (Arriving): behind it the sum so far is complete, and `+` or `-` makes it wait for the next product (Steps). The measure
--- is what remains. Assumes nothing.
-use Prim.Native.Nat.{ℕ, ◌≤◌}
-use mathlib.Core.Bool.{false}
-use lib.ListN.{length}
-use Rattle.int64.specs.Integers.{most}
-use Rattle.parser.specs.Input.{input, rest}
-use Rattle.section.specs.Standing.{Passed}
-use Rattle.evaluator.specs.Pass.{nothing, expects}
-use Rattle.evaluator.specs.Terms.{passing}
-use Rattle.evaluator.proofs.Arriving.{Ready}
+-- One operand at a turn (Summing). The measure is what remains. Assumes nothing.
+use Prim.Native.Nat.{ℕ}
+use Rattle.section.specs.Reaching.{Reached}
+use Rattle.evaluator.proofs.Passing.{left}
+use Rattle.evaluator.proofs.Summing.{Ready}
 use Rattle.evaluator.proofs.sum.Given as goal
 
-abbrev pub invariant-loop-t : goal.invariant-loop-t
-invariant-loop-t l = ((k : ℕ) → Passed l.text k l.initial.q → Ready l.text k (passing l.text k (expects false nothing nothing)) (λ i w. passing l.text i (expects false w nothing)) l.q l.op l.t)
-    × (l.t.outcome.whole.size ≤ most)
+abbrev pub invariant-loop-next : goal.invariant-loop-next
+invariant-loop-next l = (k : ℕ) → Reached l.initial.tokens.text.now k l.initial.tokens → Ready l.initial.tokens.text.now k l.tokens l.terms
 
-abbrev pub decreases-loop-t : goal.decreases-loop-t
-decreases-loop-t l = length (rest (input l.text l.toks) l.q)
+abbrev pub decreases-loop-next : goal.decreases-loop-next
+decreases-loop-next l = left l.tokens

@@ -3,11 +3,11 @@ use mathlib.Core.Path.{refl}
 use mathlib.Core.List.{[], ◌∷◌}
 use Rattle.aadl.specs.Kinds.{#◌, STAR, SLASH, PLUS, MINUS, DOT_DOT}
 use Rattle.aadl.specs.Section.{numbers}
-use Rattle.parser.specs.Input.{input}
+use Rattle.parser.specs.Parsers.{source, counters}
 use Rattle.expressions.proofs.Operators.{shown-are}
 use Rattle.expressions.proofs.at_operator.Goals as goal
 
 pub returns : goal.returns
 returns c =
-    let a = c.args in
-    shown-are (input a.text.now a.toks.now) a.p (# STAR) (numbers (SLASH ∷ PLUS ∷ MINUS ∷ DOT_DOT ∷ [])) refl refl refl (c.kind_at-kind.ensures a.text.now)
+    let p = c.args.p.now in
+    shown-are (source p.tokens) (counters p) (# STAR) (numbers (SLASH ∷ PLUS ∷ MINUS ∷ DOT_DOT ∷ [])) refl refl refl c.kind-kind.ensures

@@ -4,7 +4,7 @@ use Rattle.grammar.proofs.classifier_value.Goals as goal
 
 pub returns : goal.returns
 returns c =
-    node_at same c.start-s.ensures
-    (seq-at same (c.bump-p.ensures _)
-    (seq-at same (c.expect-p.ensures _) (seq-at same c.classifier_ref-p.ensures (c.expect-p-2.ensures _))))
+    node_at same c.start-m.ensures
+    (seq-at same (c.bump.ensures _)
+    (seq-at same (c.expect.ensures _) (seq-at same c.classifier_ref.ensures (c.expect-2.ensures _))))
     c.complete.ensures

@@ -1,8 +1,7 @@
 -- `=>` where it stands, and then a name where one stands. Assumes nothing.
 use mathlib.Core.Path.{sym, ◌∙◌}
 use Rattle.predictive.specs.Reader.{ones, first, null}
-use Rattle.parser.proofs.Join.{r-seq, r-opt_yes, r-opt_no}
-use Rattle.parser.proofs.Taking.{r-tok_yes}
+use Rattle.parser.proofs.Parsers.{r-seq, r-opt_yes, r-opt_no, r-tok_yes}
 use Rattle.grammar.proofs.mapping.Goals as goal
 
 pub returns-then-at_ident_or_kw : goal.returns-then-at_ident_or_kw
@@ -10,15 +9,15 @@ unfolding ones first null
 returns-then-at_ident_or_kw c =
     let named = sym c.at_ident_or_kw.ensures ∙ c.if-at_ident_or_kw.true in
     λ d. r-opt_yes (sym c.at.ensures ∙ c.if-at.true)
-    (r-seq (c.bump-p.ensures d) (r-opt_yes named (r-tok_yes named (c.bump_any.ensures d))))
+    (r-seq (c.bump.ensures d) (r-opt_yes named (r-tok_yes named (c.bump_any.ensures d))))
 
-pub returns-then-at : goal.returns-then-at
+pub returns-else-at_ident_or_kw : goal.returns-else-at_ident_or_kw
 unfolding ones first null
-returns-then-at c =
+returns-else-at_ident_or_kw c =
     λ d. r-opt_yes (sym c.at.ensures ∙ c.if-at.true)
-    (r-seq (c.bump-p.ensures d) (r-opt_no (sym c.at_ident_or_kw.ensures ∙ c.if-at_ident_or_kw.false)))
+    (r-seq (c.bump.ensures d) (r-opt_no (sym c.at_ident_or_kw.ensures ∙ c.if-at_ident_or_kw.false)))
 
-pub returns : goal.returns
+pub returns-else-at : goal.returns-else-at
 unfolding ones first null
-returns c =
+returns-else-at c =
     λ d. r-opt_no (sym c.at.ensures ∙ c.if-at.false)

@@ -6,34 +6,33 @@ use Rattle.predictive.specs.Reader.{ones, first, null}
 use Rattle.predictive.proofs.Takes.{takes}
 use Rattle.aadl.specs.Section as G
 use Rattle.aadl.specs.Kinds.{COMMA}
-use Rattle.parser.proofs.Join.{r-seq, r-opt_yes, r-opt_no, r-opt_sure}
-use Rattle.parser.proofs.Loops.{w-holds, w-again, w-less, w-done}
+use Rattle.parser.proofs.Parsers.{r-seq, r-opt_yes, r-opt_no, r-opt_sure, w-holds, w-again, w-less, w-done}
 use Rattle.grammar.proofs.mode_items.Goals as goal
 
-pub loop-events-init : goal.loop-events-init
-loop-events-init c = λ d. w-holds
+pub loop-p-init : goal.loop-p-init
+loop-p-init c = λ d. w-holds
 
-pub loop-events-smaller : goal.loop-events-smaller
+pub loop-p-smaller : goal.loop-p-smaller
 unfolding ones first null takes
-loop-events-smaller c =
-    w-less {P = seq (G.begun COMMA) (opt free G.mode)} refl (sym c.at.ensures ∙ c.loop-events-test.true)
-    (r-seq (c.bump-q.ensures 0) (c.mode_or_mapping-q-in-loop-events.ensures 0))
+loop-p-smaller c =
+    w-less {P = seq (G.begun COMMA) (opt free G.mode)} refl (sym c.at.ensures ∙ c.loop-p-test.true)
+    (r-seq (c.bump.ensures 0) (c.mode_or_mapping-in-loop-p.ensures 0))
 
-pub loop-events-preserved : goal.loop-events-preserved
+pub loop-p-preserved : goal.loop-p-preserved
 unfolding ones first null takes
-loop-events-preserved c =
-    λ d. w-again refl (c.loop-events.invariant d) (sym c.at.ensures ∙ c.loop-events-test.true)
-    (r-seq (c.bump-q.ensures d) (c.mode_or_mapping-q-in-loop-events.ensures d))
+loop-p-preserved c =
+    λ d. w-again refl (c.loop-p.invariant d) (sym c.at.ensures ∙ c.loop-p-test.true)
+    (r-seq (c.bump.ensures d) (c.mode_or_mapping-in-loop-p.ensures d))
 
-pub returns-then-at_ident_or_kw : goal.returns-then-at_ident_or_kw
+pub returns-after-loop-p : goal.returns-after-loop-p
 unfolding ones first null
-returns-then-at_ident_or_kw c =
+returns-after-loop-p c =
     let named = sym c.at_ident_or_kw.ensures ∙ c.if-at_ident_or_kw.true in
     λ d. r-opt_yes (rw (append-nil (ones G.names), append-nil (ones G.names)) named)
-    (r-seq (r-opt_sure (rw (append-nil (ones G.names)) named) (c.mode_or_mapping-q.ensures d))
-    (w-done (c.loop-events.invariant d) (sym c.at.ensures ∙ c.loop-events-test.false)))
+    (r-seq (r-opt_sure (rw (append-nil (ones G.names)) named) (c.mode_or_mapping.ensures d))
+    (w-done (c.loop-p.invariant d) (sym c.at.ensures ∙ c.loop-p-test.false)))
 
-pub returns : goal.returns
+pub returns-else-at_ident_or_kw : goal.returns-else-at_ident_or_kw
 unfolding ones first null
-returns c =
+returns-else-at_ident_or_kw c =
     λ d. r-opt_no (rw (append-nil (ones G.names), append-nil (ones G.names)) (sym c.at_ident_or_kw.ensures ∙ c.if-at_ident_or_kw.false))

@@ -2,15 +2,15 @@
 use mathlib.Core.Path.{sym, ◌∙◌}
 use Rattle.predictive.specs.Grammar.{free}
 use Rattle.predictive.specs.Reader.{ones, first, null}
-use Rattle.parser.proofs.Join.{r-seq, r-opt_left, r-opt_right}
+use Rattle.parser.proofs.Parsers.{r-seq, r-opt_left, r-opt_right}
 use Rattle.operands.proofs.index.Goals as goal
 
 pub returns-then-at : goal.returns-then-at
 unfolding ones first null
 returns-then-at c =
-    λ d. r-opt_left (sym c.at.ensures ∙ c.if-at.true) (r-seq (c.bump-p.ensures d) (c.index_end.ensures d))
+    λ d. r-opt_left (sym c.at.ensures ∙ c.if-at.true) (r-seq (c.bump.ensures d) (c.index_end.ensures d))
 
-pub returns : goal.returns
+pub returns-else-at : goal.returns-else-at
 unfolding ones first null
-returns c =
+returns-else-at c =
     λ d. r-opt_right (sym c.at.ensures ∙ c.if-at.false) (c.eat.ensures d free)

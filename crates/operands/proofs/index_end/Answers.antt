@@ -2,15 +2,15 @@
 use mathlib.Core.Path.{sym, ◌∙◌}
 use Rattle.predictive.specs.Grammar.{free}
 use Rattle.predictive.specs.Reader.{ones, first, null}
-use Rattle.parser.proofs.Join.{r-seq, r-opt_yes, r-opt_no}
+use Rattle.parser.proofs.Parsers.{r-seq, r-opt_yes, r-opt_no}
 use Rattle.operands.proofs.index_end.Goals as goal
 
 pub returns-then-at : goal.returns-then-at
 unfolding ones first null
 returns-then-at c =
-    λ d. r-opt_yes (sym c.at.ensures ∙ c.if-at.true) (r-seq (c.bump-p.ensures d) (c.eat.ensures d free))
+    λ d. r-opt_yes (sym c.at.ensures ∙ c.if-at.true) (r-seq (c.bump.ensures d) (c.eat.ensures d free))
 
-pub returns : goal.returns
+pub returns-else-at : goal.returns-else-at
 unfolding ones first null
-returns c =
+returns-else-at c =
     λ d. r-opt_no (sym c.at.ensures ∙ c.if-at.false)

@@ -1,8 +1,7 @@
 -- A name where one stands. Assumes nothing.
 use mathlib.Core.Path.{sym, ◌∙◌}
 use Rattle.predictive.specs.Reader.{first}
-use Rattle.parser.proofs.Join.{r-opt_yes, r-opt_no}
-use Rattle.parser.proofs.Taking.{r-tok_yes}
+use Rattle.parser.proofs.Parsers.{r-opt_yes, r-opt_no, r-tok_yes}
 use Rattle.operands.proofs.name_after.Goals as goal
 
 pub returns-then-at_ident_or_kw : goal.returns-then-at_ident_or_kw
@@ -11,7 +10,7 @@ returns-then-at_ident_or_kw c =
     λ d. r-opt_yes (sym c.at_ident_or_kw.ensures ∙ c.if-at_ident_or_kw.true)
     (r-tok_yes (sym c.at_ident_or_kw.ensures ∙ c.if-at_ident_or_kw.true) (c.bump_any.ensures d))
 
-pub returns : goal.returns
+pub returns-else-at_ident_or_kw : goal.returns-else-at_ident_or_kw
 unfolding first
-returns c =
+returns-else-at_ident_or_kw c =
     λ d. r-opt_no (sym c.at_ident_or_kw.ensures ∙ c.if-at_ident_or_kw.false)

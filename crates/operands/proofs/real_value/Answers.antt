@@ -1,8 +1,8 @@
 -- The literal and its unit, in a node. Assumes nothing.
 use Rattle.predictive.specs.Grammar.{free}
-use Rattle.parser.proofs.Join.{r-seq, n_inside}
+use Rattle.parser.proofs.Parsers.{r-seq, n_inside}
 use Rattle.operands.proofs.real_value.Goals as goal
 
 pub returns : goal.returns
 returns c =
-    λ d. n_inside c.start-s.ensures (r-seq (c.bump-p.ensures d) (c.eat-p.ensures d free)) c.complete.ensures
+    λ d. n_inside c.start-m.ensures (r-seq (c.bump.ensures d) (c.eat.ensures d free)) c.complete.ensures

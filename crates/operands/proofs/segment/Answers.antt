@@ -1,15 +1,15 @@
 -- A name where one stands, and its subscripts. Assumes nothing.
 use mathlib.Core.Path.{sym, ◌∙◌}
 use Rattle.predictive.specs.Reader.{ones, first, null}
-use Rattle.parser.proofs.Join.{r-seq, r-opt_yes, r-opt_no}
+use Rattle.parser.proofs.Parsers.{r-seq, r-opt_yes, r-opt_no}
 use Rattle.operands.proofs.segment.Goals as goal
 
 pub returns-then-at : goal.returns-then-at
 unfolding ones first null
 returns-then-at c =
-    λ d. r-opt_yes (sym c.at.ensures ∙ c.if-at.true) (r-seq (c.bump-p.ensures d) (c.array_subscripts.ensures d))
+    λ d. r-opt_yes (sym c.at.ensures ∙ c.if-at.true) (r-seq (c.bump.ensures d) (c.array_subscripts.ensures d))
 
-pub returns : goal.returns
+pub returns-else-at : goal.returns-else-at
 unfolding ones first null
-returns c =
+returns-else-at c =
     λ d. r-opt_no (sym c.at.ensures ∙ c.if-at.false)

@@ -6,12 +6,11 @@ use Rattle.predictive.specs.Reader.{ones, first, null}
 use Rattle.predictive.proofs.Takes.{takes}
 use Rattle.aadl.specs.Section as G
 use Rattle.aadl.specs.Kinds.{DOT}
-use Rattle.parser.proofs.Join.{r-opt_yes, r-opt_first_sure, r-opt_no}
-use Rattle.parser.proofs.Separated.{due_first, due_again, due_done, due_less}
+use Rattle.parser.proofs.Parsers.{r-opt_yes, r-opt_first_sure, r-opt_no, due_first, due_again, due_done, due_less}
 use Rattle.operands.proofs.segments.Goals as goal
 
-pub loop-q-init : goal.loop-q-init
-loop-q-init c = λ d. due_first
+pub loop-p-init : goal.loop-p-init
+loop-p-init c = λ d. due_first
 
 pub returns-then-not-at : goal.returns-then-not-at
 unfolding ones first null
@@ -19,19 +18,19 @@ returns-then-not-at c =
     let s = sym c.at.ensures ∙ c.if-at.true in
     λ d. r-opt_yes s
     (r-opt_first_sure s
-    (due_done (c.loop-q.invariant d) (c.segment-q.ensures d) (sym c.at-in-loop-q.ensures ∙ c.if-not-at.true)))
+    (due_done (c.loop-p.invariant d) (c.segment.ensures d) (sym c.at-in-loop-p.ensures ∙ c.if-not-at.true)))
 
-pub loop-q-smaller : goal.loop-q-smaller
+pub loop-p-smaller : goal.loop-p-smaller
 unfolding ones first takes
-loop-q-smaller c =
-    let d : ℕ = 0 in due_less {S = G.begun DOT} refl (c.segment-q.ensures d) (sym c.at-in-loop-q.ensures ∙ c.if-not-at.false)
-    (c.bump-q.ensures d)
+loop-p-smaller c =
+    let d : ℕ = 0 in due_less {S = G.begun DOT} refl (c.segment.ensures d) (sym c.at-in-loop-p.ensures ∙ c.if-not-at.false)
+    (c.bump.ensures d)
 
-pub loop-q-preserved : goal.loop-q-preserved
+pub loop-p-preserved : goal.loop-p-preserved
 unfolding ones first null takes
-loop-q-preserved c =
-    λ d. due_again refl (c.loop-q.invariant d) (c.segment-q.ensures d) (sym c.at-in-loop-q.ensures ∙ c.if-not-at.false)
-    (c.bump-q.ensures d)
+loop-p-preserved c =
+    λ d. due_again refl (c.loop-p.invariant d) (c.segment.ensures d) (sym c.at-in-loop-p.ensures ∙ c.if-not-at.false)
+    (c.bump.ensures d)
 
 pub returns : goal.returns
 unfolding ones first null

@@ -2,15 +2,13 @@
 -- nothing; the first does not, since a name stands. Assumes nothing.
 use Prim.Native.Nat.{ℕ}
 use Rattle.predictive.specs.Notation.{maybe}
-use Rattle.parser.specs.Input.{input}
 use Rattle.aadl.specs.Section as G
 use Rattle.aadl.specs.Kinds.{DOT}
-use Rattle.parser.proofs.Loops.{μ}
-use Rattle.parser.proofs.Separated.{Due}
+use Rattle.parser.proofs.Parsers.{μ, Due}
 use Rattle.operands.proofs.segments.Given as goal
 
-abbrev pub invariant-loop-q : goal.invariant-loop-q
-invariant-loop-q l = (d : ℕ) → Due (input l.text l.toks) d (maybe G.segment) (G.begun DOT) l.initial.q l.initial.events l.q l.events
+abbrev pub invariant-loop-p : goal.invariant-loop-p
+invariant-loop-p l = (d : ℕ) → Due d (maybe G.segment) (G.begun DOT) l.initial.p l.p
 
-abbrev pub decreases-loop-q : goal.decreases-loop-q
-decreases-loop-q l = μ (input l.text l.toks) l.q
+abbrev pub decreases-loop-p : goal.decreases-loop-p
+decreases-loop-p l = μ l.p

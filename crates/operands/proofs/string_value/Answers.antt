@@ -1,7 +1,7 @@
 -- The literal, in a node. Assumes nothing.
-use Rattle.parser.proofs.Join.{n_inside}
+use Rattle.parser.proofs.Parsers.{n_inside}
 use Rattle.operands.proofs.string_value.Goals as goal
 
 pub returns : goal.returns
 returns c =
-    λ d. n_inside c.start-s.ensures (c.bump-p.ensures d) c.complete.ensures
+    λ d. n_inside c.start-m.ensures (c.bump.ensures d) c.complete.ensures

@@ -1,15 +1,15 @@
 -- `::` where it stands, and a name after it. Assumes nothing.
 use mathlib.Core.Path.{sym, ◌∙◌}
 use Rattle.predictive.specs.Reader.{ones, first, null}
-use Rattle.parser.proofs.Join.{r-seq, r-opt_yes, r-opt_no}
+use Rattle.parser.proofs.Parsers.{r-seq, r-opt_yes, r-opt_no}
 use Rattle.properties.proofs.name_in_set.Goals as goal
 
 pub returns-then-at : goal.returns-then-at
 unfolding ones first null
 returns-then-at c =
-    λ d. r-opt_yes (sym c.at.ensures ∙ c.if-at.true) (r-seq (c.bump-p.ensures d) (c.property_name.ensures d))
+    λ d. r-opt_yes (sym c.at.ensures ∙ c.if-at.true) (r-seq (c.bump.ensures d) (c.property_name.ensures d))
 
-pub returns : goal.returns
+pub returns-else-at : goal.returns-else-at
 unfolding ones first null
-returns c =
+returns-else-at c =
     λ d. r-opt_no (sym c.at.ensures ∙ c.if-at.false)

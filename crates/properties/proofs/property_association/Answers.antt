@@ -5,10 +5,10 @@ use Rattle.properties.proofs.property_association.Goals as goal
 
 pub returns : goal.returns
 returns c =
-    inside-at same c.start-s.ensures
-    (seq-at same (c.property_ref-p.ensures _)
-    (seq-at same (c.arrow-p.ensures _)
-    (seq-at same (c.eat-p.ensures _ free)
-    (seq-at same c.property_values-p.ensures
-    (seq-at same (c.applies_to-p.ensures _) (seq-at same c.in_binding-p.ensures (c.expect-p.ensures _)))))))
-    c.complete-c.ensures
+    inside-at same c.start-m.ensures
+    (seq-at same (c.property_ref.ensures _)
+    (seq-at same (c.arrow.ensures _)
+    (seq-at same (c.eat.ensures _ free)
+    (seq-at same c.property_values.ensures
+    (seq-at same (c.applies_to.ensures _) (seq-at same c.in_binding.ensures (c.expect.ensures _)))))))
+    c.complete.ensures

@@ -7,7 +7,7 @@ pub returns-then-at_name : goal.returns-then-at_name
 returns-then-at_name c =
     let m = c.args.message in λ d. r-name_yes (sym (c.at_name.ensures m) ∙ c.if-at_name.true) (c.bump_any.ensures d)
 
-pub returns : goal.returns
-returns c =
+pub returns-else-at_name : goal.returns-else-at_name
+returns-else-at_name c =
     let m = c.args.message in λ d. r-name_no (sym (c.at_name.ensures m) ∙ c.if-at_name.false)
-    (rw c.wide32.ensures at c.error.ensures)
+    (rw c.from.ensures at c.error.ensures)

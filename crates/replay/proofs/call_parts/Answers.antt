@@ -10,7 +10,7 @@ use Rattle.aadl.specs.Answers.{tokens_answer, token_words, left_in}
 use Rattle.aadl.specs.declared.Answer.{Answer}
 use Rattle.aadl.specs.declared.Number.{Number}
 use Rattle.aadl.proofs.CallsRead.{tokens-answered, tokens-left_only}
-use Rattle.writing.proofs.WriteLaws.{wrote-same}
+use Rattle.writing.proofs.WriteLaws.{writes-same}
 use Rattle.replay_lines.specs.Records.{old_word, line}
 use Rattle.replay.specs.Calls.{parts_called}
 use Rattle.replay.proofs.call_parts.Goals as goal
@@ -27,5 +27,5 @@ pub returns : goal.returns
 returns c =
     let x = c.args in
     let called = c.tokenize.ensures in
-    wrote-same c.put_parts.ensures
+    writes-same c.put_parts.ensures
     (row x.src.now (length x.tokens.now) x.number _ _ _ _ c.fill.ensures (tokens-answered called) (tokens-left_only called) c.number_parts.ensures.parts)

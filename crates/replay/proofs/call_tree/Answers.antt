@@ -8,7 +8,7 @@ use Rattle.aadl.specs.Answers.{token_words, event_words, left_in}
 use Rattle.aadl.specs.Records.{record_words, tree_answer}
 use Rattle.aadl.specs.declared.TreeAnswer.{TreeAnswer}
 use Rattle.aadl.proofs.TreeCalls.{tree-answered, tree-left}
-use Rattle.writing.proofs.WriteLaws.{wrote-same}
+use Rattle.writing.proofs.WriteLaws.{writes-same}
 use Rattle.replay_lines.specs.Records.{old_word, tree_lines}
 use Rattle.replay.specs.Calls.{tree_called}
 use Rattle.replay.proofs.Filled.{long}
@@ -37,4 +37,4 @@ returns c =
     let same =
     lines x.src.now (length x.tokens.now) (length x.events.now) (length x.records.now) _ _ _ at_fill_lem.fill.ensures at-fill2.fill-2.ensures at-fill3.fill-3.ensures _ _
     _ _ (tree-answered called) (tree-left called).0 (tree-left called).1.0 (tree-left called).1.1 in
-    wrote-same at-put.put_tree.ensures same
+    writes-same at-put.put_tree.ensures same

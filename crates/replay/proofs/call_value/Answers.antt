@@ -8,7 +8,7 @@ use Rattle.aadl.specs.Answers.{token_words, event_words, left_in}
 use Rattle.aadl.specs.ValueCall.{value_answer}
 use Rattle.aadl.specs.declared.ValueAnswer.{ValueAnswer}
 use Rattle.aadl.proofs.ValueCalls.{value-answered, value-left}
-use Rattle.writing.proofs.WriteLaws.{wrote-same}
+use Rattle.writing.proofs.WriteLaws.{writes-same}
 use Rattle.replay_lines.specs.Records.{old_word, value_lines}
 use Rattle.replay.specs.Calls.{value_called}
 use Rattle.replay.proofs.Filled.{long}
@@ -34,4 +34,4 @@ returns c =
     let called = at_call.association_value-a.ensures in
     let same =
     lines x.src.now (length x.tokens.now) (length x.events.now) x.number _ _ at_fill_lem.fill.ensures at-fill2.fill-2.ensures _ _ _ (value-answered called) (value-left called).0 (value-left called).1 in
-    wrote-same at-put.put_valued.ensures same
+    writes-same at-put.put_valued.ensures same

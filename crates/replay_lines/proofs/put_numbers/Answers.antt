@@ -1,12 +1,13 @@
--- Number after number (SpacedLaws), as in `put_words`. Assumes nothing.
-use native.Mathlib.Omega.{arith}
-use native.Mathlib.Numerals.{add-one}
-use Rattle.replay_lines.proofs.SpacedLaws.{spaced-more}
+-- Number after number (SpacedLaws): the first are written. Assumes nothing.
+use Rattle.writing.proofs.WriteLaws.{writes_none}
+use Rattle.replay_lines.proofs.SpacedLaws.{spaced-more, spaced-all}
 use Rattle.replay_lines.proofs.put_numbers.Goals as goal
 
-pub loop-i-preserved : goal.loop-i-preserved
-loop-i-preserved c =
-    let put = c in
-    let l = put.loop-i in
-    let a = put.args in
-    (rw (add-one l.i) (spaced-more a.numbers.now _ l.i _ (omega arith) l.invariant.0 put.put_number-end.ensures), omega arith)
+pub loop-n-init : goal.loop-n-init
+loop-n-init g c = writes_none c.args.w.now
+
+pub loop-n-preserved : goal.loop-n-preserved
+loop-n-preserved g c = spaced-more g.N.Whole.value c.args.numbers.now c.loop-n.n-index _ c.n-item.result c.loop-n-test.true c.n-item.is c.long.ensures c.loop-n.invariant c.put_number.ensures
+
+pub returns : goal.returns
+returns g c = spaced-all g.N.Whole.value c.args.numbers.now c.loop-n.n-index c.loop-n-test.false c.loop-n.invariant

@@ -1,12 +1,9 @@
--- Number after number (SpacedLaws), as in `put_words`. Assumes nothing.
-use Prim.Native.Nat.{◌-◌, ◌≤◌}
-use lib.ListN.{length, take}
-use Rattle.writing.specs.Written.{Wrote}
+-- Number after number (SpacedLaws): the first are written. Assumes nothing.
+use lib.ListN.{take}
+use mathlib.Core.List.{map}
+use Rattle.writing.specs.Written.{Writes}
 use Rattle.replay_lines.specs.Records.{spaced}
 use Rattle.replay_lines.proofs.put_numbers.Given as goal
 
-abbrev pub invariant-loop-i : goal.invariant-loop-i
-invariant-loop-i l = Wrote l.initial.out l.at (spaced (take l.i l.numbers)) l.out l.end × (l.i ≤ length l.numbers)
-
-abbrev pub decreases-loop-i : goal.decreases-loop-i
-decreases-loop-i l = length l.numbers - l.i
+abbrev pub invariant-loop-n : goal.invariant-loop-n
+invariant-loop-n g l = Writes l.initial.w (spaced (map g.N.Whole.value (take l.n-index l.numbers))) l.w

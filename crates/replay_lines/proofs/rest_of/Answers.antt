@@ -10,7 +10,5 @@ returns-then-number-ne0 c =
 
 pub returns : goal.returns
 returns c =
-    let at_least_lem = c in
-    let at-if1 = at_least_lem in
-    let a = at-if1.args in
-    c.count_of-2.ensures ∙ rest-kept a.number a.used at_least_lem.least-from.result a.words.now at-if1.if-number-ne0.false at_least_lem.least-from.ensures
+    let a = c.args in
+    c.count_of-2.ensures ∙ rest-kept a.number a.used c.min-from.result a.words.now c.if-number-ne0.false c.min-from.ensures

@@ -21,7 +21,7 @@ unfolding exponent_end member
 returns-then-b c =
     let letter : let a = c.args in is_exponent (peek a.s.now a.i) ≡ true = ap is_exponent (sym c.peek.ensures) ∙ sym c.in_class.ensures ∙ c.if-in_class.true in
     let sign : let a = c.args in is_sign (peek a.s.now (a.i + 1)) ≡ is_sign c.peek-b.result = ap is_sign (sym c.peek-b.ensures) in
-    rw (letter, sign ∙ c.if-b.true) c.run_end.ensures.0
+    rw (letter, sign ∙ c.if-b.true) (c.run_end.ensures.0, omega (arith, c.run_end.ensures.2))
 
 pub overflow_add-i-then-in_class : goal.overflow_add-i-then-in_class
 unfolding member
@@ -34,11 +34,11 @@ unfolding exponent_end member
 returns-then-in_class c =
     let letter : let a = c.args in is_exponent (peek a.s.now a.i) ≡ true = ap is_exponent (sym c.peek.ensures) ∙ sym c.in_class.ensures ∙ c.if-in_class.true in
     let sign : let a = c.args in is_sign (peek a.s.now (a.i + 1)) ≡ is_sign c.peek-b.result = ap is_sign (sym c.peek-b.ensures) in
-    rw (letter, sign ∙ c.if-b.false) c.run_end-then-in_class.ensures.0
+    rw (letter, sign ∙ c.if-b.false) (c.run_end-then-in_class.ensures.0, omega (arith, c.run_end-then-in_class.ensures.2))
 
 pub returns : goal.returns
 unfolding exponent_end member
 returns c =
     let a = c.args in
     let e : is_exponent (peek a.s.now a.i) ≡ false = ap is_exponent (sym c.peek.ensures) ∙ sym c.in_class.ensures ∙ c.if-in_class.false in
-    rw e refl
+    rw e (refl, omega arith)

@@ -1,6 +1,6 @@
 -- What stands where the digits end tells the case of the definition (NumberCases). Each fact that more than one case uses is said once, of the
 -- place behind the test for a C-style literal. Assumes nothing.
-use Prim.Native.Nat.{ℕ, ◌+◌, ◌-◌, ◌<◌}
+use Prim.Native.Nat.{ℕ, ◌-◌, ◌<◌}
 use mathlib.Core.Path.{◌≡◌, sym, ap, ◌∙◌}
 use mathlib.Core.Bool.{◌&&◌}
 use mathlib.Core.List.{List}
@@ -9,20 +9,13 @@ use lib.ListN.{get_or, drop}
 use lib.Seq.{get_or-drop}
 use lib.Dec.{eqb}
 use borrow.Author.Tests.{eq-eqb, ne_eqb}
-use Rattle.aadl.specs.Bytes.{peek, is_digit, is_ident_continue}
+use Rattle.aadl.specs.Bytes.{peek, is_ident_continue}
 use Rattle.aadl.specs.Tokens.{radix_digit}
-use Rattle.aadl.proofs.RunLaws.{run-end_from, run-rest}
+use Rattle.aadl.proofs.RunLaws.{run-rest}
 use Rattle.cursor.specs.declared.Window.{Window}
 use Rattle.classes.specs.Classes.{member}
 use Rattle.scan.proofs.NumberCases.{Digits, digits-by_window, c_style-test, c_style-number, based-number, dotted-number, exponent-number, plain-number}
 use Rattle.scan.proofs.number_from.Goals as goal
-
-pub overflow_sub-run_end : goal.overflow_sub-run_end
-unfolding member
-overflow_sub-run_end c =
-    let text : List ℕ = c.args.s.now in
-    let at : ℕ = c.args.at in
-    let q = c.before in omega (arith, c.run_end.ensures.0, run-end_from is_ident_continue (text) (at))
 
 pub returns-then-is_c_style : goal.returns-then-is_c_style
 unfolding member
@@ -54,16 +47,6 @@ returns-then-b-eq35 c =
     let q1 = q2.before in
     let q = q1.before in
     c.scan_based.ensures ∙ based-number (digits) (tested ∙ q1.if-is_c_style.false) (eq-eqb _ 35 q2.if-b-eq35.true)
-
-pub scan_real-requires : goal.scan_real-requires
-unfolding member
-scan_real-requires c =
-    let text : List ℕ = c.args.s.now in
-    let end : ℕ = c.args.d in
-    let at : ℕ = c.args.at in
-    let end-from : at < end = c.requires.0 in
-    let q = c.before in
-    (omega (arith, c.run_end-then-b-c.ensures.0, run-end_from is_digit (text) (end + 1), end-from), q.requires.2)
 
 pub returns-then-b-c : goal.returns-then-b-c
 unfolding member

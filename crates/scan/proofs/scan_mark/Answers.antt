@@ -15,7 +15,7 @@ mark_or_error-requires c =
     let not_second : is_second c.window_at-w.result.second ≡ false = sym c.in_class.ensures ∙ c.if-not-in_class.true in
     let w = c.window_at-w in
     let q = c.before in
-    (omega (arith, q.requires.0.inside), c.one_mark.ensures ∙ single-stands q.args.s.now q.args.at q.args.k q.requires.0 q.requires.1 w.result w.ensures (not_second))
+    (omega (arith, q.requires.0.inside), c.one_mark-one.ensures ∙ single-stands q.args.s.now q.args.at q.args.k q.requires.0 q.requires.1 w.result w.ensures (not_second))
 
 pub returns-then-not-in_class : goal.returns-then-not-in_class
 unfolding member
@@ -31,7 +31,7 @@ pub longer_mark-requires : goal.longer_mark-requires
 longer_mark-requires c =
     let w = c.window_at-w in
     let q = c.before in
-    single-of_window q.args.s.now q.args.at q.args.k q.requires.0 q.requires.1 w.result w.ensures
+    c.one_mark-one.ensures ∙ single-of_window q.args.s.now q.args.at q.args.k q.requires.0 q.requires.1 w.result w.ensures
 
 pub mark_or_error-requires-2 : goal.mark_or_error-requires-2
 mark_or_error-requires-2 c =
@@ -43,4 +43,4 @@ pub returns : goal.returns
 returns c =
     let w = c.window_at-w in
     let q = c.before in
-    c.mark_or_error-2.ensures ∙ mark-token q.args.s.now q.args.at q.args.k q.requires.0 q.requires.1 w.result w.ensures c.if-a-b.false
+    c.mark_or_error-2.ensures ∙ mark-token q.args.s.now q.args.at q.args.k q.requires.0 q.requires.1 w.result w.ensures c.if-w.false

@@ -25,7 +25,7 @@ scan_real-requires c =
     let at : ℕ = c.args.at in
     let end-from : at < end = omega (arith, c.run_end-d.ensures.0, run-end_from is_digit (text) (at + 1)) in
     let q = c.before in
-    (omega (arith, c.run_end.ensures.0, run-end_from is_digit (text) (end + 1), end-from), q.requires.1)
+    omega (arith, c.run_end.ensures.0, run-end_from is_digit (text) (end + 1), end-from)
 
 pub returns-then-b-w : goal.returns-then-b-w
 unfolding member number_of
@@ -36,7 +36,7 @@ returns-then-b-w c =
     let end : ℕ = c.run_end-d.result in
     let end-from : at < end = omega (arith, c.run_end-d.ensures.0, run-end_from is_digit (text) (at + 1)) in
     let digits : Digits (text) (at) (end) window.first window.second = digits-by_window (text) (at) (end) (window) (end-from) c.window_at-w.ensures in
-    let counted : whole (digits) ≡ number_of (drop (at) (text)) = let h = c.requires.0 in
+    let counted : whole (digits) ≡ number_of (drop (at) (text)) = let h = c.requires in
     ap (number_from (drop (at) (text))) (ap (λ (e : ℕ). e - at) c.run_end-d.ensures.0 ∙ digit-run (text) (at) h) in
     let no_c_style : radix_digit window.first window.second ≡ false → c_style-test (digits) ≡ false = λ e. and_false_r (eqb (end - at) 1 && eqb (peek (drop (at) (text)) 0) 48) (radix_digit window.first window.second) e in
     let dot : window.first ≡ 46 = let w = window in eqb-true w.first 46 (and_l (eqb w.first 46) (not (eqb w.second 46)) c.if-b-w.true) in
@@ -55,7 +55,7 @@ scan_integer-requires c =
     let at : ℕ = c.args.at in
     let end : ℕ = c.run_end-d.result in
     let end-from : at < end = omega (arith, c.run_end-d.ensures.0, run-end_from is_digit (text) (at + 1)) in
-    let q = c.before in (omega (arith, end-from), q.requires.1)
+    let q = c.before in (omega (arith, end-from))
 
 pub returns-then-b-in_class : goal.returns-then-b-in_class
 unfolding member number_of
@@ -66,7 +66,7 @@ returns-then-b-in_class c =
     let end : ℕ = c.run_end-d.result in
     let end-from : at < end = omega (arith, c.run_end-d.ensures.0, run-end_from is_digit (text) (at + 1)) in
     let digits : Digits (text) (at) (end) window.first window.second = digits-by_window (text) (at) (end) (window) (end-from) c.window_at-w.ensures in
-    let counted : whole (digits) ≡ number_of (drop (at) (text)) = let h = c.requires.0 in
+    let counted : whole (digits) ≡ number_of (drop (at) (text)) = let h = c.requires in
     ap (number_from (drop (at) (text))) (ap (λ (e : ℕ). e - at) c.run_end-d.ensures.0 ∙ digit-run (text) (at) h) in
     let no_c_style : radix_digit window.first window.second ≡ false → c_style-test (digits) ≡ false = λ e. and_false_r (eqb (end - at) 1 && eqb (peek (drop (at) (text)) 0) 48) (radix_digit window.first window.second) e in
     let q2 = c.before in
@@ -84,7 +84,7 @@ number_from-requires c =
     let at : ℕ = c.args.at in
     let end : ℕ = c.run_end-d.result in
     let end-from : at < end = omega (arith, c.run_end-d.ensures.0, run-end_from is_digit (text) (at + 1)) in
-    let q = c.before in (omega (arith, end-from), omega (arith, q.run_end-d.ensures.1, q.requires.0.inside), q.requires.1)
+    let q = c.before in (omega (arith, end-from), omega (arith, q.run_end-d.ensures.1, q.requires.inside))
 
 pub returns : goal.returns
 unfolding member number_of
@@ -95,6 +95,6 @@ returns c =
     let window : Window = c.window_at-w.result in
     let end-from : at < end = omega (arith, c.run_end-d.ensures.0, run-end_from is_digit (text) (at + 1)) in
     let digits : Digits (text) (at) (end) window.first window.second = digits-by_window (text) (at) (end) (window) (end-from) c.window_at-w.ensures in
-    let counted : whole (digits) ≡ number_of (drop (at) (text)) = let h = c.requires.0 in
+    let counted : whole (digits) ≡ number_of (drop (at) (text)) = let h = c.requires in
     ap (number_from (drop (at) (text))) (ap (λ (e : ℕ). e - at) c.run_end-d.ensures.0 ∙ digit-run (text) (at) h) in
     c.number_from.ensures ∙ counted

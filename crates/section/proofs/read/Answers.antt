@@ -1,13 +1,20 @@
--- The section is read where `properties` stands, and the parser stops with 4 where it does not (Sectioning). Assumes nothing.
-use Rattle.section.proofs.Sectioning.{code_refuses, code_reads}
+-- The section is read where `properties` stands, and the parser stops with 4 where it does not. Assumes nothing.
+use mathlib.Core.Path.{sym, ◌∙◌}
+use Rattle.predictive.proofs.Tests.{never}
 use Rattle.section.proofs.read.Goals as goal
 
-pub returns-then-not-at : goal.returns-then-not-at
-returns-then-not-at c =
-    let a = c.args in
-    code_refuses a.limits a.text.now a.toks.now c.new-p.result c.requires.0 c.requires.1 c.new-p.ensures _ _ c.at.ensures c.if-not-at.true (c.stop.ensures _)
+pub returns-then-at : goal.returns-then-at
+returns-then-at c =
+    record {
+      read = λ e. c.property_section.ensures;
+      refused_4 = λ e. never (sym e ∙ sym c.at.ensures ∙ c.if-at.true);
+      same = c.property_section.ensures.same;
+    }
 
-pub returns : goal.returns
-returns c =
-    let a = c.args in
-    code_reads a.limits a.text.now a.toks.now c.new-p.result c.requires.0 c.requires.1 c.new-p.ensures c.at.ensures c.if-not-at.false c.property_section.ensures
+pub returns-else-at : goal.returns-else-at
+returns-else-at c =
+    record {
+      read = λ e. never (sym (sym c.at.ensures ∙ c.if-at.false) ∙ e);
+      refused_4 = λ e. c.stop.ensures;
+      same = c.stop.ensures.same;
+    }

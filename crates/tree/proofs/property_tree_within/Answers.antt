@@ -27,14 +27,14 @@ slice_bounds-build-end-2 c =
     let made = c.property_section_within-a in
     sym (length-take-le (words_for made.result.events) made.new.events (events-fit made.ensures c.if-a-ne0.false))
 
-pub build-b-requires : goal.build-b-requires
-build-b-requires c = events-stand c.property_section_within-a.ensures c.if-a-ne0.false
+pub build-requires : goal.build-requires
+build-requires c = events-stand c.property_section_within-a.ensures c.if-a-ne0.false
 
 pub slice_bounds-token_place-end : goal.slice_bounds-token_place-end
 slice_bounds-token_place-end c = tokens-fit c.property_section_within-a.ensures c.if-a-ne0.false
 
-pub slice_bounds-token_place-end-then-records-b : goal.slice_bounds-token_place-end-then-records-b
-slice_bounds-token_place-end-then-records-b c =
+pub slice_bounds-token_place-end-in-Err : goal.slice_bounds-token_place-end-in-Err
+slice_bounds-token_place-end-in-Err c =
     let made = c.property_section_within-a in
     sym (length-take-le made.result.tokens made.new.tokens (tokens-fit made.ensures c.if-a-ne0.false))
 
@@ -43,15 +43,15 @@ token_place-place-requires c =
     let made = c.property_section_within-a.ensures in
     (passed-short made c.if-a-ne0.false c.requires, token_words-counted made c.if-a-ne0.false)
 
-pub returns-then-records-b : goal.returns-then-records-b
-returns-then-records-b c =
+pub returns-in-Err : goal.returns-in-Err
+returns-in-Err c =
     let made = c.property_section_within-a in
     let place = c.token_place-place in
     let refused = c.refuse in
-    let gone = c.without_records-then-records-b in
-    called-full made.ensures c.if-a-ne0.false c.build-b.ensures gone.result place.result refused.new.tokens c.clear.new.words gone.new.records
-    c.if-records-b.true place.ensures (gone.ensures.0 ∙ ap (λ (a : Answer). with_records a 0) refused.ensures.0) made.auto.tokens made.auto.events
+    let gone = c.without_records-in-Err in
+    called-full made.ensures c.if-a-ne0.false c.in-Err.ensures gone.result place.result refused.new.tokens c.clear.new.words gone.new.records
+    place.ensures (gone.ensures.0 ∙ ap (λ (a : Answer). with_records a 0) refused.ensures.0) made.auto.tokens made.auto.events
     refused.ensures.1 c.clear.ensures gone.ensures.1
 
-pub returns : goal.returns
-returns c = called-built c.property_section_within-a.ensures c.if-a-ne0.false c.build-b.ensures c.if-records-b.false
+pub returns-in-Ok : goal.returns-in-Ok
+returns-in-Ok c = called-built c.property_section_within-a.ensures c.if-a-ne0.false c.in-Ok.ensures

@@ -2,7 +2,7 @@
 -- token. Assumes nothing.
 use Prim.Native.Nat.{ℕ, ◌+◌, ◌≤◌, ◌<◌}
 use native.Mathlib.Omega.{arith}
-use mathlib.Core.Path.{◌≡◌, refl, ap, ◌∙◌}
+use mathlib.Core.Path.{◌≡◌, ap, subst, ◌∙◌}
 use mathlib.Core.Bool.{Bool, true}
 use mathlib.Core.List.{List}
 use lib.ListN.{length, get_or}
@@ -10,99 +10,117 @@ use mir.Syntax.{w64}
 use mir.Val.{to_z, of_z}
 use mir.ValLaws.{to_z-of_z}
 use borrow.Author.Rules.{rules}
-use borrow.Author.Tests.{not-true, not-false}
+use Rattle.std.specs.Prelude.{Option, Some, None, Result, Ok}
+use Rattle.std.specs.declared.ops.Range.{Range}
 use Rattle.aadl.specs.declared.Limits.{Limits}
 use Rattle.aadl.specs.Symbols.{raw_number}
 use Rattle.aadl.specs.ValueCall.{nth_association, text_associations}
-use Rattle.bands.specs.declared.Band.{Band}
+use Rattle.int64.specs.declared.Whole.{Whole}
 use Rattle.bands.specs.Bands.{nth_within}
-use Rattle.section.proofs.Passing.{passed-place}
+use Rattle.parser.specs.declared.Tokens.{Tokens}
+use Rattle.section.specs.Reaching.{Reached}
+use Rattle.section.proofs.Reaching.{reached-own, reached-place, reached-stands}
+use Rattle.evaluator.specs.Terms.{FirstValue}
 use Rattle.value.specs.Words.{starting}
 use Rattle.value.specs.Verdicts.{WasRead}
 use Rattle.value.proofs.Judging.{value-fits, few-events, number-counted, judged-unclean, judged-absent, second-there, second_is, judged-no_constant, judged-beyond, judged-valued}
 use Rattle.value.proofs.judge.Goals as goal
 
+-- what a search gives in the band that is looked for
+module _ (band : Range ℕ) (e : band ≡ starting) (number : ℕ) (ws : List ℕ) where
+  absent : (nth_within band number ws < length ws → ⊥) → length ws ≤ nth_within starting number ws
+  absent n = omega (arith, n, ap (λ (b : Range ℕ). nth_within b number ws) e)
+
+  found : (at : ℕ) → (nth_within band number ws < length ws) × (at ≡ nth_within band number ws) → (nth_within starting number ws < length ws) × (at ≡ nth_within starting number ws)
+  found at f = subst (λ (b : Range ℕ). (nth_within b number ws < length ws) × (at ≡ nth_within b number ws)) e f
+
 -- The association is there, at a place, and the word behind its Start names its first token.
-module _ {limits : Limits} {text toks events : List ℕ} {clean : Bool} (x : WasRead limits text toks events clean) (number at : ℕ) (cleanly : clean ≡ true)
-    (place : at ≡ nth_within starting number events) (found : at < length events) where
-  there : nth_within starting number events < length events
-  there = omega (arith, place, found)
+module _ {limits : Limits} {text words events : List ℕ} {clean : Bool} (x : WasRead limits text words events clean) (number at : ℕ) (cleanly : clean ≡ true)
+    (f : (nth_within starting number events < length events) × (at ≡ nth_within starting number events)) where
+  abbrev first : ℕ
+  first = (nth_association number (text_associations limits text)).first
 
-  named : get_or events (at + 1) 0 ≡ raw_number text (nth_association number (text_associations limits text)).first
-  named = (λ i. get_or events (place i + 1) 0) ∙ second_is x number cleanly there
+  named : get_or events (at + 1) 0 ≡ raw_number text first
+  named = (λ i. get_or events (f.1 i + 1) 0) ∙ second_is x number cleanly f.0
 
-  named_counted : get_or events (at + 1) 0 ≤ length toks
-  named_counted = omega (arith, named, number-counted x (nth_association number (text_associations limits text)).first)
+  named_counted : get_or events (at + 1) 0 ≤ length words
+  named_counted = omega (arith, named, number-counted x first)
+
+-- what is read at tokens of a text
+read : (text : List ℕ) (k : ℕ) (t : Tokens) (r : Option (Result Whole ℕ)) → Reached text k t → ((j : ℕ) → Reached t.text.now j t → FirstValue t.text.now j r) → FirstValue text k r
+read text k t r x e = subst (λ (s : List ℕ). FirstValue s k r) x.text_is (e k (reached-own text k t x))
 
 pub returns-then-not-clean : goal.returns-then-not-clean
-returns-then-not-clean c = λ limits x. judged-unclean x c.args.number c.refusal.result c.refusal.ensures.0 c.refusal.ensures.1 c.if-not-clean.true
+returns-then-not-clean c = λ limits x. judged-unclean x c.args.number c.if-not-clean.true
 
-pub find-at-requires : goal.find-at-requires
-find-at-requires c =
+pub find-requires : goal.find-requires
+find-requires c =
     let x = c.requires.1 in
     omega (arith, few-events x, x.few)
 
-pub returns-then-events-at : goal.returns-then-events-at
-returns-then-events-at c = λ limits x.
-    let a = c.args in
-    let place = c.find-at.ensures ∙ ap (λ (b : Band). nth_within b a.number a.events.now) c.starting.ensures in
-    let r = c.refusal-then-events-at in
-    judged-absent x a.number c.if-not-clean.false r.result r.ensures.0 r.ensures.1 (omega (arith, place, c.if-events-at.true))
+pub returns-in_default : goal.returns-in_default
+returns-in_default c = λ limits x.
+    judged-absent x c.args.number c.if-not-clean.false (absent c.starting.result c.starting.ensures c.args.number c.args.events.now c.in_default.ensures)
 
 pub bounds-events-at : goal.bounds-events-at
 bounds-events-at c =
     let a = c.args in
-    let place = c.find-at.ensures ∙ ap (λ (b : Band). nth_within b a.number a.events.now) c.starting.ensures in
+    let f = found c.starting.result c.starting.ensures a.number a.events.now c.in-Some.at c.in-Some.ensures in
+    omega (arith, f.1, second-there c.requires.1 a.number c.if-not-clean.false f.0)
+
+pub seek-tokens-requires : goal.seek-tokens-requires
+seek-tokens-requires c =
+    let a = c.args in
     let x = c.requires.1 in
-    omega (arith, place, second-there x a.number c.if-not-clean.false (there x a.number c.find-at.result c.if-not-clean.false place c.if-events-at.false))
+    let f = found c.starting.result c.starting.ensures a.number a.events.now c.in-Some.at c.in-Some.ensures in
+    (x.short, x.words, named_counted x a.number c.in-Some.at c.if-not-clean.false f)
 
-pub seek-p-requires : goal.seek-p-requires
-seek-p-requires c =
+pub first_value-requires : goal.first_value-requires
+first_value-requires c =
     let a = c.args in
-    let place = c.find-at.ensures ∙ ap (λ (b : Band). nth_within b a.number a.events.now) c.starting.ensures in
     let x = c.requires.1 in
-    (x.short, x.words, named_counted x a.number c.find-at.result c.if-not-clean.false place c.if-events-at.false)
+    let f = found c.starting.result c.starting.ensures a.number a.events.now c.in-Some.at c.in-Some.ensures in
+    let sought = c.seek-tokens.ensures _ (named x a.number c.in-Some.at c.if-not-clean.false f) in
+    reached-stands a.text.now _ c.seek-tokens.result sought
 
-pub first_value-t-requires : goal.first_value-t-requires
-first_value-t-requires c =
+pub returns-in_default-first_value : goal.returns-in_default-first_value
+returns-in_default-first_value c = λ limits x.
     let a = c.args in
-    let place = c.find-at.ensures ∙ ap (λ (b : Band). nth_within b a.number a.events.now) c.starting.ensures in
+    let t = c.seek-tokens.result in
+    let f = found c.starting.result c.starting.ensures a.number a.events.now c.in-Some.at c.in-Some.ensures in
+    let sought = c.seek-tokens.ensures _ (named x a.number c.in-Some.at c.if-not-clean.false f) in
+    judged-no_constant x a.number c.if-not-clean.false f.0 (read a.text.now _ t None sought c.in_default-first_value.ensures) t.byte (reached-place a.text.now _ t sought)
+
+pub to_i64-requires : goal.to_i64-requires
+to_i64-requires c =
     let x = c.requires.1 in
-    (x.short, x.words, (_, c.seek-p.ensures _ (named x a.number c.find-at.result c.if-not-clean.false place c.if-events-at.false)))
-
-pub returns-then-not-t : goal.returns-then-not-t
-returns-then-not-t c = λ limits x.
     let a = c.args in
-    let place = c.find-at.ensures ∙ ap (λ (b : Band). nth_within b a.number a.events.now) c.starting.ensures in
-    let sought = c.seek-p.ensures _ (named x a.number c.find-at.result c.if-not-clean.false place c.if-events-at.false) in
-    let t = c.first_value-t in
-    let r = c.refusal-then-not-t in
-    judged-no_constant x a.number c.if-not-clean.false (there x a.number c.find-at.result c.if-not-clean.false place c.if-events-at.false) t.result
-    (t.ensures _ sought) r.result r.ensures.0 (r.ensures.1 ∙ passed-place a.text.now _ c.seek-p.result sought) (not-true t.result.constant c.if-not-t.true)
+    let t = c.seek-tokens.result in
+    let f = found c.starting.result c.starting.ensures a.number a.events.now c.in-Some.at c.in-Some.ensures in
+    let sought = c.seek-tokens.ensures _ (named x a.number c.in-Some.at c.if-not-clean.false f) in
+    let found : FirstValue a.text.now _ (Some (Ok c.in-Ok.whole)) =
+    subst (λ (v : Result Whole ℕ). FirstValue a.text.now (first x a.number c.in-Some.at c.if-not-clean.false f) (Some v)) c.in-Ok.is
+    (read a.text.now _ t (Some c.in-Some-first_value.value) sought c.in-Some-first_value.ensures) in
+    value-fits a.text.now _ c.in-Ok.whole found
 
-pub returns-then-o : goal.returns-then-o
-returns-then-o c = λ limits x.
+pub returns-in-Ok : goal.returns-in-Ok
+returns-in-Ok c = λ limits x.
     let a = c.args in
-    let place = c.find-at.ensures ∙ ap (λ (b : Band). nth_within b a.number a.events.now) c.starting.ensures in
-    let t = c.first_value-t in
-    let r = c.refusal-then-o in
-    judged-beyond x a.number c.if-not-clean.false (there x a.number c.find-at.result c.if-not-clean.false place c.if-events-at.false) t.result
-    (t.ensures _ (c.seek-p.ensures _ (named x a.number c.find-at.result c.if-not-clean.false place c.if-events-at.false))) (not-false t.result.constant c.if-not-t.false) r.result r.ensures.0 r.ensures.1 c.if-o.true
+    let t = c.seek-tokens.result in
+    let f = found c.starting.result c.starting.ensures a.number a.events.now c.in-Some.at c.in-Some.ensures in
+    let sought = c.seek-tokens.ensures _ (named x a.number c.in-Some.at c.if-not-clean.false f) in
+    let v = c.to_i64.result in
+    judged-valued x a.number c.if-not-clean.false f.0 c.in-Ok.whole (to_z w64 (of_z w64 v))
+    (subst (λ (r : Result Whole ℕ). FirstValue a.text.now (first x a.number c.in-Some.at c.if-not-clean.false f) (Some r)) c.in-Ok.is
+    (read a.text.now _ t (Some c.in-Some-first_value.value) sought c.in-Some-first_value.ensures))
+    (to_z-of_z w64 v (search rules) ∙ c.to_i64.ensures)
 
-pub to_i64-value-requires : goal.to_i64-value-requires
-to_i64-value-requires c =
+pub returns-in-Err : goal.returns-in-Err
+returns-in-Err c = λ limits x.
     let a = c.args in
-    let place = c.find-at.ensures ∙ ap (λ (b : Band). nth_within b a.number a.events.now) c.starting.ensures in
-    let x = c.requires.1 in
-    let t = c.first_value-t in
-    value-fits a.text.now _ t.result (t.ensures _ (c.seek-p.ensures _ (named x a.number c.find-at.result c.if-not-clean.false place c.if-events-at.false))) (not-false t.result.constant c.if-not-t.false) c.if-o.false
-
-pub returns : goal.returns
-returns c = λ limits x.
-    let a = c.args in
-    let place = c.find-at.ensures ∙ ap (λ (b : Band). nth_within b a.number a.events.now) c.starting.ensures in
-    let t = c.first_value-t in
-    let v = c.to_i64-value in
-    judged-valued x a.number c.if-not-clean.false (there x a.number c.find-at.result c.if-not-clean.false place c.if-events-at.false) t.result
-    (t.ensures _ (c.seek-p.ensures _ (named x a.number c.find-at.result c.if-not-clean.false place c.if-events-at.false))) (not-false t.result.constant c.if-not-t.false) (record { number = 0; place = 0; value = to_z w64 (of_z w64 v.result) }) refl
-    (to_z-of_z w64 v.result (search rules) ∙ v.ensures) c.if-o.false
+    let t = c.seek-tokens.result in
+    let f = found c.starting.result c.starting.ensures a.number a.events.now c.in-Some.at c.in-Some.ensures in
+    let sought = c.seek-tokens.ensures _ (named x a.number c.in-Some.at c.if-not-clean.false f) in
+    judged-beyond x a.number c.if-not-clean.false f.0 c.in-Err.place
+    (subst (λ (r : Result Whole ℕ). FirstValue a.text.now (first x a.number c.in-Some.at c.if-not-clean.false f) (Some r)) c.in-Err.is
+    (read a.text.now _ t (Some c.in-Some-first_value.value) sought c.in-Some-first_value.ensures))

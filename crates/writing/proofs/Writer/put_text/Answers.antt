@@ -1,0 +1,13 @@
+-- As much of the text as there is room for is pasted (WriteLaws). Assumes nothing.
+use mathlib.Core.Path.{refl}
+use native.Mathlib.Omega.{arith}
+use Rattle.writing.proofs.WriteLaws.{wrote_front}
+use Rattle.writing.proofs.Writer.put_text.Goals as goal
+
+pub returns : goal.returns
+returns c =
+    let w = c.args.self.now in
+    record {
+      same = refl;
+      wrote = wrote_front w.out.now c.args.text.now w.at c.min-from.result c.min-count.result _ _ (omega arith) (omega arith) (omega arith) c.copy_from_slice.ensures.after;
+    }
