@@ -155,7 +155,8 @@ fn skip_chunks(s: &[u8], from: usize, least: u8, most: u8) -> usize
     i
 }
 
-// How many bytes of none of a range stand at the front.
+// How many bytes of none of a range stand at the front. It and `run` stay two: each test stands in its clause, and one function would need it as a ghost
+// parameter beside the closure.
 fn gap(s: &[u8], least: u8, most: u8) -> usize
     ensures { result ≡ length (take_while (unsought least most) s.now) }
 {

@@ -74,7 +74,7 @@ fn prototype_binding_list(p: &mut Parser<'_>)
     m.complete(p, PROTOTYPE_BINDING_LIST);
 }
 
-// Bindings with commas between them, if a name stands.
+// Bindings with commas between them, if a name stands. A loop of its own in the cycle, which has no proof through a closure.
 #[cycle(classifier)]
 fn binding_items(p: &mut Parser<'_>)
     ensures { ReadsWithin (suc p.old.left) (maybe (G.commas (G.binding G.name) (G.binding any))) p.old p.new }
@@ -127,7 +127,7 @@ pub fn in_modes(p: &mut Parser<'_>)
     p.expect(R_PAREN);
 }
 
-// Modes with commas between them, if a name stands.
+// Modes with commas between them, if a name stands. A loop of its own: as a closure's it would be no plainer (`property_values`).
 fn mode_items(p: &mut Parser<'_>)
     ensures { ReadsPart (maybe (G.commas G.mode (maybe G.mode))) p.old p.new }
 {

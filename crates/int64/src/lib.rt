@@ -9,7 +9,7 @@ ghost use Rattle.int64.specs.Integers.{most, by_sign, integer, ResultOf};
 
 use std::ops::Neg;
 
-// A whole number by its sign and its size. Zero may have either sign.
+// A whole number by its sign and its size. Zero may have either sign. No size is ruled out, since `add`, `multiply` and `to_i64` promise for each.
 #[derive(Clone, Copy)]
 pub struct Whole {
     pub negative: bool,

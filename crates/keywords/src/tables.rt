@@ -1,5 +1,6 @@
 // The table of words by columns, a row for each word in the order of the kinds, and one row more, without letters, that is no word's. Each
-// array is the list that specs/Tables.antt computes from the words of aadl: proofs/Columns.antt.
+// array is the list that specs/Tables.antt computes from the words of aadl: proofs/Columns.antt. By columns, since rows differ in how many letters they have
+// and nothing is kept on a heap.
 
 // The letters of the eighty-one words, laid end to end.
 pub static LETTERS: [u8; 510] =

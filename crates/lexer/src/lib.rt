@@ -165,7 +165,7 @@ pub const BASE: Limits = Limits {
     openers: 64,
 };
 
-// A refusal zeroes every lent word. A call with more words clears the others.
+// A refusal zeroes every lent word. A call with more words clears the others. The number is any, as in an answer, of which `is_clean` takes each.
 pub fn refuse(tokens: &mut [u32], number: u32, place: usize) -> Answer
     ensures { (result ≡ refused number place) × (tokens.new ≡ replicate (length tokens.old) 0) }
 {

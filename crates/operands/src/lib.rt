@@ -60,7 +60,7 @@ fn segment(p: &mut Parser<'_>)
     }
 }
 
-// The segments of a path, if a name stands.
+// The segments of a path, if a name stands. A loop of its own: as a closure's it would be no plainer (`property_values`).
 fn segments(p: &mut Parser<'_>)
     ensures { ReadsPart (maybe G.segments) p.old p.new }
 {

@@ -89,7 +89,8 @@ fn answer(src: &[u8], tokens: &mut [u32], events: &mut [u32], only: bool) -> Ans
     section::property_section(src, tokens, events)
 }
 
-// Makes a record's call on words that are filled anew, and puts its lines.
+// Makes a record's call on words that are filled anew, and puts its lines. The three below are like it, for calls with other words, other answers and
+// other lines: in one generic function each of these would be a parameter.
 fn call(src: &[u8], tokens: &mut [u32], events: &mut [u32], only: bool, w: &mut Writer)
     ensures { Writes w.old (called only src.now (length tokens.old) (length events.old)) w.new }
 {

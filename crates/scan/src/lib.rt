@@ -1,6 +1,6 @@
 // The lexer's scanners, one for each sort of token, with the Rust's names, on the text and a position: each gives the token that begins
 // there, as aadl's `token_of` has it, the one for numbers all of the number. `scan_token` goes by the first byte to the scanner of its sort,
-// which asks for such a byte and does not look at it again.
+// which asks for such a byte (`Begins`, of another sort for each) and does not look at it again.
 
 #![tactic(auto)]
 

@@ -31,7 +31,7 @@ fn after(o: io::Result<Option<usize>>, why: io::Error) -> io::Result<usize>
     o?.ok_or(why)
 }
 
-// One read. At the input's end there is `None`.
+// One read. At the input's end there is `None`; a write that moves nothing has failed, so reads and writes stay two.
 fn read_once<R: Read>(from: &mut R, buf: &mut [u8]) -> io::Result<Option<usize>>
     ensures { IfOk result (λ o. IfSome o (λ n. n ≤ length buf.old)) }
 {

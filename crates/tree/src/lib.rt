@@ -19,7 +19,8 @@ use lexer::{BASE, clear, refuse};
 use parser::Tokens;
 use section::property_section_within;
 
-// A tree that is being built: how many records its nodes so far have, the innermost open node's record, the tokens taken.
+// A tree that is being built: how many records its nodes so far have, the innermost open node's record, the tokens taken. Records are numbers in words
+// that C lends, with no heap.
 #[derive(Clone, Copy)]
 pub struct Builder {
     pub records: usize,
