@@ -1,5 +1,5 @@
 -- What the scanners ask for. Assumes nothing.
-use Rattle.std.specs.Prelude.{ℕ, zero, suc, ◌+◌, ◌≤◌, ◌<◌, ◌≡◌, false, cond, List, length, get_or, eqb}
+use Rattle.std.specs.Prelude.{ℕ, zero, suc, ◌+◌, ◌≤◌, ◌<◌, ◌≡◌, true, false, cond, slice_index, List, length, get_or, eqb}
 use Rattle.aadl.specs.Kinds.{#◌, WHITESPACE, IDENT, INTEGER_LIT, STRING_LIT}
 use Rattle.aadl.specs.Bytes.{is_ident_continue}
 use Rattle.classes.specs.Classes.{lead_of}
@@ -22,6 +22,16 @@ pub record Dashes (s : List ℕ) (at : ℕ) : Type 0 where
   pub inside : at + 2 ≤ length s
   pub first : get_or s at 0 ≡ 45
   pub second : get_or s (at + 1) 0 ≡ 45
+
+-- Every byte belongs to a word; ..
+abbrev pub AllWord : List ℕ → Type 0
+AllWord s = (k : ℕ) → k < length s → is_ident_continue (slice_index s k) ≡ true
+
+-- .. or that at place i is the last that does not.
+abbrev pub LastOutside : List ℕ → (i : ℕ) → Type 0
+LastOutside s i =
+    (i < length s) × (is_ident_continue (slice_index s i) ≡ false)
+    × ((k : ℕ) → i < k → k < length s → is_ident_continue (slice_index s k) ≡ true)
 
 -- The last of the first n places whose byte belongs to no word, or 0.
 unfoldable pub last_gap : List ℕ → (n : ℕ) → ℕ

@@ -4,12 +4,12 @@
 
 #![tactic(auto)]
 
-ghost use Rattle.std.specs.Prelude.{ℕ, true, slice_index, MatchOption, ◌≡◌, false, ◌&&◌, [], ◌∷◌, ◌+◌, ◌-◌, ◌≤◌, ◌<◌, length, drop, eqb};
+ghost use Rattle.std.specs.Prelude.{MatchOption, ◌≡◌, false, ◌&&◌, [], ◌∷◌, ◌+◌, ◌-◌, ◌≤◌, ◌<◌, length, drop, eqb};
 ghost use Rattle.aadl.specs.Kinds.{#◌, WHITESPACE as WHITE, IDENT as NAME, INTEGER_LIT as INTEGER, STRING_LIT as STRING};
 ghost use Rattle.aadl.specs.Bytes.{run_end, is_ident_continue, is_grouped};
 ghost use Rattle.aadl.specs.Tokens.{token, quoted, unbased, exponent_end, radix_digit, based, real, integer, number_from, number_of, mark_of, token_of};
 ghost use Rattle.scan.specs.Inner.{single, longest};
-ghost use Rattle.scan.specs.Places.{Begins, Dashes, last_gap, Bounds, Other};
+ghost use Rattle.scan.specs.Places.{Begins, Dashes, AllWord, LastOutside, last_gap, Bounds, Other};
 
 use aadl::{Number, Quoted, Span, Token};
 use classes::{
@@ -228,7 +228,7 @@ fn scan_number(s: &[u8], at: usize) -> Number
 // The place of the last byte that belongs to no word.
 #[tactic(auto, unfolding(classes::specs::Classes::member))]
 fn last_outside(s: &[u8]) -> Option<usize>
-    ensures { MatchOption result ((k : ℕ) → k < length s.now → is_ident_continue (slice_index s.now k) ≡ true) (λ i. (i < length s.now) × (is_ident_continue (slice_index s.now i) ≡ false) × ((k : ℕ) → i < k → k < length s.now → is_ident_continue (slice_index s.now k) ≡ true)) }
+    ensures { MatchOption result (AllWord s.now) (LastOutside s.now) }
 {
     s.iter().rposition(|b| !in_class(*b, WORD))
 }

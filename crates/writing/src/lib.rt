@@ -33,7 +33,7 @@ impl<'a> Writer<'a> {
     pub fn room(&self) -> usize
         ensures { result ≡ length self.now.out.now - self.now.at }
     {
-        self.out.len().saturating_sub(self.at)
+        self.out.len() - self.at
     }
 
     // Writes one byte.
@@ -47,7 +47,7 @@ impl<'a> Writer<'a> {
     pub fn put_text(&mut self, text: &[u8])
         ensures { Writes self.old text.now self.new }
     {
-        let from = self.at.min(self.out.len());
+        let from = self.at;
         let count = text.len().min(self.out.len() - from);
         self.at = from + count;
         self.out[from..from + count].copy_from_slice(&text[..count]);

@@ -9,5 +9,5 @@ returns c =
     let w = c.args.self.now in
     record {
       same = refl;
-      wrote = wrote_front w.out.now c.args.text.now w.at c.min-from.result c.min-count.result _ _ (omega arith) (omega arith) (omega arith) c.copy_from_slice.ensures.after;
+      wrote = wrote_front w.out.now c.args.text.now w.at w.at c.min-count.result _ _ (omega (arith, w.within)) (omega (arith, w.within)) (omega (arith, w.within)) c.copy_from_slice.ensures.after;
     }
