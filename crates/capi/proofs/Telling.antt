@@ -1,11 +1,12 @@
 -- Numbers written over lent ones, however many are lent; and the part of a text that a start and a length name is the token's text. Assumes nothing.
-use Prim.Native.Nat.{ℕ, suc, ◌+◌, ◌≤◌, ◌<◌, min}
+use Prim.Native.Nat.{ℕ, zero, suc, ◌+◌, ◌≤◌, ◌<◌}
+use native.Mathlib.Nat.{not-suc-le-zero, le_of_suc-le-suc}
 use native.Mathlib.Omega.{arith}
-use mathlib.Core.Path.{◌≡◌, refl, ap, ap₂}
+use mathlib.Core.Path.{◌≡◌, refl, sym, ap, ap₂, ◌∙◌}
 use mathlib.Core.Bool.{Bool, true, false}
-use mathlib.Core.List.{List, [], ◌∷◌, ◌++◌}
-use lib.ListN.{length, get_or, take, drop, length-drop}
-use lib.Seq.{length-take-le}
+use mathlib.Core.List.{List, [], ◌∷◌}
+use lib.ListN.{length, get_or, take, drop, set, length-drop}
+use lib.Seq.{length-take-le, set_out}
 use lib.Dec.{ltb, leb}
 use borrow.Author.Tests.{ltb-true, ltb-false, leb-true, leb-false}
 use Rattle.aadl.specs.Tokens.{length_in, total, token_text}
@@ -15,17 +16,22 @@ use Rattle.capi.specs.Numbers.{text_start, part_of}
 
 -- WRITTEN OVER -------------------------------------------------------------------------------------------------------
 
--- as many as are lent, before those that stay
-pub write-front : (ns old : List ℕ) (n : ℕ) → n ≡ min (length old) (length ns) → take n ns ++ drop n old ≡ write ns old
-write-front [] old n h =
-    let e : n ≡ 0 = omega arith in
-    rw e refl
-write-front (a ∷ ns) [] n h =
-    let e : n ≡ 0 = omega arith in
-    rw e refl
-write-front (a ∷ ns) (o ∷ old) n h =
-    let e : n ≡ suc (min (length old) (length ns)) = omega arith in
-    rw e (ap (λ (l : List ℕ). a ∷ l) (write-front ns old (min (length old) (length ns)) refl))
+pub write-long : (ns old : List ℕ) → length (write ns old) ≡ length old
+write-long [] old = refl
+write-long (n ∷ ns) [] = refl
+write-long (n ∷ ns) (o ∷ old) = ap suc (write-long ns old)
+
+-- one more, where it is lent ..
+pub write-more : (ns old : List ℕ) (i : ℕ) → i < length ns → set (write (take i ns) old) i (get_or ns i 0) ≡ write (take (suc i) ns) old
+write-more [] old i h = absurd (not-suc-le-zero h)
+write-more (n ∷ ns) [] zero h = refl
+write-more (n ∷ ns) (o ∷ old) zero h = refl
+write-more (n ∷ ns) [] (suc i) h = refl
+write-more (n ∷ ns) (o ∷ old) (suc i) h = ap (λ (l : List ℕ). n ∷ l) (write-more ns old i (le_of_suc-le-suc h))
+
+-- .. and where it is not
+pub write_past : (ns old : List ℕ) (i : ℕ) → i < length ns → length old ≤ i → write (take i ns) old ≡ write (take (suc i) ns) old
+write_past ns old i h past = sym (set_out (write (take i ns) old) i (get_or ns i 0) (omega (arith, write-long (take i ns) old))) ∙ write-more ns old i h
 
 -- A TOKEN'S TEXT -------------------------------------------------------------------------------------------------------
 

@@ -18,8 +18,11 @@ use codec::events_told;
 fn tell(lent: &mut [usize], numbers: &[usize])
     ensures { lent.new ≡ write numbers.now lent.old }
 {
-    let count = lent.len().min(numbers.len());
-    lent[..count].copy_from_slice(&numbers[..count]);
+    for (i, n) in numbers.iter().enumerate() {
+        if i < lent.len() {
+            lent[i] = *n;
+        }
+    }
 }
 
 // An answer's five numbers.

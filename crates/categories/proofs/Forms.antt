@@ -16,7 +16,7 @@ use Rattle.aadl.specs.Kinds.{IN_KW, OUT_KW, PORT_KW, EVENT_KW, ACCESS_KW, PROVID
 use Rattle.aadl.specs.Symbols.{shown}
 use Rattle.aadl.specs.Section.{Rule, begun, numbers, node, heads, direction, component_category, component_forms, feature_forms, category_forms, category}
 use Rattle.syntax_kind.specs.Categories.{categories}
-use Rattle.parser.specs.Counters.{Counters}
+use Rattle.parser.specs.declared.Counters.{Counters}
 use Rattle.parser.specs.Input.{Input, END, nth}
 use Rattle.parser.specs.Reads.{stands}
 use Rattle.categories.proofs.Words.{begins-one, begins-two, ◌also◌, no_more, begins-any, follows, kinds-are, best_none, best-append, Alike, maybe-form}

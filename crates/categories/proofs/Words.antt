@@ -15,7 +15,7 @@ use Rattle.predictive.proofs.Tests.{never, and_l, and_r, or_true_l, or_cases}
 use Rattle.predictive.proofs.Heads.{at_end, at_ones, at-neither, among, among-absent}
 use Rattle.syntax_kind.proofs.KindSets.{joined, joined-has}
 use Rattle.aadl.specs.Section.{Rule, grammar}
-use Rattle.parser.specs.Counters.{Counters}
+use Rattle.parser.specs.declared.Counters.{Counters}
 use Rattle.parser.specs.Input.{Input, rest, END, ahead, nth}
 use Rattle.parser.specs.declared.Parser.{Parser}
 use Rattle.parser.specs.Reads.{stands}

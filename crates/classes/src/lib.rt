@@ -107,7 +107,12 @@ pub fn run(s: &[u8], class: u8) -> usize
 pub fn run_end(s: &[u8], from: usize, class: u8) -> usize
     ensures { (result ≡ run_end (member class) s.now from) × (result ≤ max from (length s.now)) × (from ≤ result) }
 {
-    from + run(rest(s, from), class)
+    for end in from..s.len() {
+        if !in_class(s[end], class) {
+            return end;
+        }
+    }
+    from.max(s.len())
 }
 
 // Whether a byte is one of a range.

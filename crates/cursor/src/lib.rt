@@ -42,7 +42,10 @@ impl<'a> Cursor<'a> {
     pub fn peek(self, n: usize) -> u8
         ensures { result ≡ bytes.peek self.entry.input.now (self.entry.pos + n) }
     {
-        peek(self.input, self.pos.saturating_add(n))
+        if self.pos < self.input.len() && n < self.input.len() - self.pos {
+            return self.input[self.pos + n];
+        }
+        0
     }
 }
 

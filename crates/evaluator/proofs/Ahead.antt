@@ -17,7 +17,7 @@ use Rattle.aadl.specs.Symbols.{symbol_of, C_STYLE, Placed, placed, symbols, raw_
 use Rattle.aadl.specs.Answers.{token_words}
 use Rattle.aadl.proofs.TokenBounds.{token-cases, word-kind, mark-kind}
 use Rattle.aadl.proofs.TokenText.{TokenAt, token-at}
-use Rattle.parser.specs.Counters.{Counters}
+use Rattle.parser.specs.declared.Counters.{Counters}
 use Rattle.parser.specs.Input.{input, standing, rest, ahead, nth}
 use Rattle.parser.specs.declared.Tokens.{Tokens}
 use Rattle.parser.specs.Parsers.{source, cursor}

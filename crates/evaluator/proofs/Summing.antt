@@ -1,5 +1,6 @@
 -- A sum, operand by operand: what waits for the next one, and the value where nothing goes on. Assumes nothing.
-use Prim.Native.Nat.{ℕ, suc}
+use Prim.Native.Nat.{ℕ, suc, ◌≤◌}
+use native.Mathlib.Omega.{arith}
 use mathlib.Core.Path.{◌≡◌, refl, sym, ap, ◌∙◌}
 use mathlib.Core.Bool.{Bool, true, false, ◌||◌}
 use mathlib.Core.List.{List, [], ◌∷◌}
@@ -23,6 +24,7 @@ use Rattle.evaluator.proofs.Steps.{operator-step, no_star, over, stopped}
 -- From token k the tokens t have come to an operand for which a sum and a product wait.
 pub record Ready (text : List ℕ) (k : ℕ) (t : Tokens) (u : Terms) : Type 0 where
   pub to : ℕ
+  pub from : k ≤ to
   pub stands : Reached text to t
   pub sum : Pending
   pub product : Pending
@@ -31,7 +33,7 @@ pub record Ready (text : List ℕ) (k : ℕ) (t : Tokens) (u : Terms) : Type 0 w
 
 module _ (text : List ℕ) (k : ℕ) where
   pub ready-first : (t : Tokens) → Reached text k t → Ready text k t (record { sum = None; product = None })
-  ready-first t x = record { to = k; stands = x; sum = nothing; product = nothing; waits = (tt, tt); gives = refl }
+  ready-first t x = record { to = k; from = omega arith; stands = x; sum = nothing; product = nothing; waits = (tt, tt); gives = refl }
 
   module _ (t : Tokens) (u : Terms) (x : Ready text k t u) where
     -- an operand is read, and the tokens v stand behind it
@@ -47,6 +49,7 @@ module _ (text : List ℕ) (k : ℕ) where
       ready-again op w n e h p =
           record {
             to = suc y.to;
+            from = omega (arith, x.from, y.from);
             stands = p;
             sum = sum_behind op y.to x.sum factor;
             product = product_behind op y.to factor;
@@ -59,6 +62,7 @@ module _ (text : List ℕ) (k : ℕ) where
       summed all e h =
           record {
             to = y.to;
+            from = omega (arith, x.from, y.from);
             stands = y.stands;
             outcome = completed x.sum factor;
             held = h text x.sum x.product y.outcome x.waits y.held;

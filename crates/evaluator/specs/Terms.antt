@@ -94,6 +94,7 @@ module _ (text : List ℕ) where
   -- The same of a sum, where no operator goes on with it.
   pub record Sum (k : ℕ) (r : Result Whole ℕ) (t : Tokens) : Type 0 where
     pub to : ℕ
+    pub from : k < to
     pub stands : Reached text to t
     pub outcome : Outcome
     pub held : Held outcome r

@@ -12,7 +12,7 @@ use Rattle.predictive.proofs.Lookahead.{single}
 use Rattle.aadl.specs.Section.{Rule, grammar, operand, expression}
 use Rattle.parser.specs.declared.Parser.{Parser}
 use Rattle.parser.specs.declared.CompletedMarker.{CompletedMarker}
-use Rattle.parser.specs.Counters.{Counters}
+use Rattle.parser.specs.declared.Counters.{Counters}
 use Rattle.parser.specs.Input.{Input, rest}
 use Rattle.parser.specs.Reads.{stands, heads_of}
 use Rattle.parser.specs.Parsers.{source, counters, stand, ReadsWithin, ReadsOperandWithin}

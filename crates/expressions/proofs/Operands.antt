@@ -21,7 +21,7 @@ use Rattle.aadl.specs.Section.{Rule, Expression, Negated, Operand, begun, one_of
 use Rattle.aadl.specs.Section as G
 use Rattle.parser.specs.declared.Parser.{Parser}
 use Rattle.parser.specs.declared.CompletedMarker.{CompletedMarker}
-use Rattle.parser.specs.Counters.{Counters}
+use Rattle.parser.specs.declared.Counters.{Counters}
 use Rattle.parser.specs.Input.{Input, rest, nth}
 use Rattle.parser.specs.Reads.{stands, reading_at}
 use Rattle.parser.specs.Parsers.{source, counters, Same, stand, ReadsWithin, ReadsNodeWithin, ReadsOperandWithin}

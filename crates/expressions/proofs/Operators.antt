@@ -10,7 +10,7 @@ use Rattle.predictive.specs.Reader.{ones}
 use Rattle.syntax_kind.proofs.KindSets.{joined, joined-has}
 use Rattle.aadl.specs.Kinds.{#◌, ERROR}
 use Rattle.aadl.specs.Symbols.{C_STYLE, shown}
-use Rattle.parser.specs.Counters.{Counters}
+use Rattle.parser.specs.declared.Counters.{Counters}
 use Rattle.parser.specs.Input.{Input, END, nth}
 use Rattle.parser.specs.Reads.{stands}
 use Rattle.categories.proofs.Words.{kinds-are}

@@ -1,15 +1,21 @@
--- Lengths that are added up to a cap, by induction over the words. Assumes nothing.
-use Prim.Native.Nat.{ℕ, ◌+◌, ◌≤◌, min, zero-le}
-use native.Mathlib.Nat.{zero-add}
+-- Lengths that are added up to a cap, word by word. Assumes nothing.
+use Prim.Native.Nat.{ℕ, zero, suc, ◌+◌, ◌<◌, min}
+use native.Mathlib.Nat.{le_of_suc-le-suc, not-suc-le-zero}
+use native.Mathlib.Numerals.{add-one}
 use native.Mathlib.Omega.{arith}
-use mathlib.Core.Path.{◌≡◌, ap, ◌∙◌}
+use mathlib.Core.Path.{◌≡◌, ap}
 use mathlib.Core.List.{List, [], ◌∷◌}
-use Rattle.std.specs.List.{fold}
+use lib.ListN.{length, get_or, take}
 use Rattle.aadl.specs.Tokens.{length_in, total}
 
-capped_from : (cap a : ℕ) (ws : List ℕ) → a ≤ cap → fold (λ at w. min (at + length_in w) cap) a ws ≡ min (a + total ws) cap
-capped_from cap a [] h = omega (arith, h)
-capped_from cap a (w ∷ ws) h = omega (arith, capped_from cap (min (a + length_in w) cap) ws (omega arith))
+total_next : (ws : List ℕ) (i : ℕ) → i < length ws → total (take (suc i) ws) ≡ total (take i ws) + length_in (get_or ws i 0)
+total_next [] i h = absurd (not-suc-le-zero h)
+total_next (w ∷ ws) zero h = omega arith
+total_next (w ∷ ws) (suc i) h = omega (arith, total_next ws i (le_of_suc-le-suc h))
 
-pub capped_total : (cap : ℕ) (ws : List ℕ) → fold (λ at w. min (at + length_in w) cap) 0 ws ≡ min (total ws) cap
-capped_total cap ws = capped_from cap 0 ws zero-le ∙ ap (λ (k : ℕ). min k cap) (zero-add (total ws))
+pub capped_next : (cap at more i : ℕ) (ws : List ℕ) → i < length ws → at ≡ min (total (take i ws)) cap → more ≡ min (at + length_in (get_or ws i 0)) cap →
+    more ≡ min (total (take (i + 1) ws)) cap
+capped_next cap at more i ws h e f =
+    let next = total_next ws i h in
+    let same = ap (λ (k : ℕ). total (take k ws)) (add-one i) in
+    omega (arith, e, f, next, same)

@@ -2,10 +2,10 @@
 
 #![tactic(auto)]
 
-ghost use Rattle.std.specs.Prelude.{◌≡◌, ◌+◌, ◌-◌, ◌≤◌, ◌<◌, min, [], length, take, drop, fold, replicate, unwrap_or};
+ghost use Rattle.std.specs.Prelude.{◌≡◌, ◌+◌, ◌-◌, ◌≤◌, ◌<◌, min, [], length, take, drop, replicate, unwrap_or};
 ghost use Rattle.aadl.specs.Limits.{base, Allowed};
 ghost use Rattle.aadl.specs.Utf8.{ill_formed};
-ghost use Rattle.aadl.specs.Tokens.{length_in, total, from_token, token_text};
+ghost use Rattle.aadl.specs.Tokens.{total, from_token, token_text};
 ghost use Rattle.aadl.specs.NumberParts.{no_number, number_parts, part_numbers, PartsHold};
 ghost use Rattle.aadl.specs.Answers.{refused, token_words};
 ghost use Rattle.aadl.specs.Promises.{MakesTokensCall};
@@ -73,26 +73,24 @@ pub fn clear(words: &mut [u32])
 
 // A sum, at most a cap.
 fn add_capped(a: usize, b: usize, cap: usize) -> usize
+    requires { a ≤ cap }
     ensures { result ≡ min (a + b) cap }
 {
-    a.saturating_add(b).min(cap)
-}
-
-// The lengths in the first words, added up to a cap.
-fn added_up(words: &[u32], number: usize, cap: usize) -> usize
-    ensures { result ≡ fold (λ at w. min (at + length_in w) cap) 0 (take number words.now) }
-{
-    words
-        .iter()
-        .take(number)
-        .fold(0, |at, w| add_capped(at, length_in(*w), cap))
+    if b < cap - a {
+        return a + b;
+    }
+    cap
 }
 
 // The sum of the lengths in the first words, at most a cap.
 pub fn token_start(words: &[u32], number: usize, cap: usize) -> usize
     ensures { result ≡ min (total (take number words.now)) cap }
 {
-    added_up(words, number, cap)
+    let mut at = 0;
+    for w in &words[..number.min(words.len())] {
+        at = add_capped(at, length_in(*w), cap);
+    }
+    at
 }
 
 // The part from a place to another, or the empty part where the second is past the end.

@@ -54,7 +54,7 @@ fn list<R: Print + Eprint, F: Read>(rt: &R, from: &mut F, name: &str) {
     let mut text = [0u8; READ];
     let count = match read_full(from, &mut text) {
         Ok(count) => count,
-        Err(why) => return tell(rt, name, &Some(why)),
+        Err(cut) => return tell(rt, name, &Some(cut.why)),
     };
     let mut tokens = [0u32; TOKENS];
     let mut events = [0u32; EVENTS];

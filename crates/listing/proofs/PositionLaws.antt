@@ -22,7 +22,8 @@ use Rattle.aadl.proofs.Characters.{WellFormed}
 use Rattle.aadl.proofs.EventPairs.{first_words-of}
 use Rattle.aadl.proofs.EventWords.{words-tell_events}
 use Rattle.aadl.proofs.AnswerDerived.{answered-whole}
-use Rattle.parser.specs.Counters.{Place, Counters}
+use Rattle.parser.specs.declared.Counters.{Counters}
+use Rattle.parser.specs.Counters.{Place}
 use Rattle.aadl.specs.Tokens.{kind_in}
 use Rattle.parser.specs.Input.{Input, input, past, skip, after_one, new}
 use Rattle.section.specs.Standing.{Behind}

@@ -3,7 +3,7 @@
 
 #![tactic(auto)]
 
-ghost use Rattle.std.specs.Prelude.{◌≡◌, true, ◌+◌, ◌*◌, ◌≤◌, min, length, drop};
+ghost use Rattle.std.specs.Prelude.{◌≡◌, true, ◌+◌, ◌*◌, ◌/◌, ◌≤◌, min, length, drop};
 ghost use Rattle.aadl.specs.Bytes.{peek, is_digit};
 ghost use Rattle.aadl.specs.NumberParts.{PartsHold};
 ghost use Rattle.aadl.specs.Values.{digits, in_base, number_by_parts, literal_number};
@@ -15,26 +15,34 @@ use classes::{DIGITS, run_end};
 use int64::MOST;
 use scan::number_from;
 
-// A number with a digit behind it, at most MOST.
-fn append(n: u64, base: u32, d: u32) -> u64
+// A number with a digit behind it, at most MOST; limit is the greatest number that has a place for one more digit. By tests, not by saturating
+// operations: in a long literal each digit waits for the number before it.
+fn append(n: u64, base: u32, limit: u64, d: u32) -> u64
+    requires { (1 ≤ base) × (limit ≡ most / base) }
     ensures { result ≡ min (n * base + d) most }
 {
-    let longer = n
-        .saturating_mul(u64::from(base))
-        .saturating_add(u64::from(d));
-    longer.min(MOST)
+    if limit < n {
+        return MOST;
+    }
+    let longer = n * u64::from(base);
+    if MOST - longer < u64::from(d) {
+        return MOST;
+    }
+    longer + u64::from(d)
 }
 
 // The number of digits in a base, at most MOST; none where there is no digit, or one that is not below the base.
+#[inline(always)]
 fn in_base(part: &[u8], base: u32) -> Option<u64>
     requires { (2 ≤ base) × (base ≤ 16) }
     ensures { LiteralOf (in_base base (digits part.now)) result }
 {
+    let limit = MOST / u64::from(base);
     let mut number = None;
     for &b in part {
         if b != b'_' {
             let d = char::from(b).to_digit(base)?;
-            number = Some(append(number.unwrap_or(0), base, d));
+            number = Some(append(number.unwrap_or(0), base, limit, d));
         }
     }
     number

@@ -13,7 +13,7 @@ use borrow.Author.Tests.{lt-ltb, le-ltb, ltb-true, ltb-false}
 use Rattle.predictive.specs.Events.{Event, start}
 use Rattle.aadl.specs.Limits.{most_events}
 use Rattle.aadl.specs.Encoding.{event_word, words_for, cut_to_word}
-use Rattle.parser.specs.Counters.{Counters}
+use Rattle.parser.specs.declared.Counters.{Counters}
 use Rattle.parser.specs.Buffer.{room, put, named, linked}
 use Rattle.parser.specs.State.{with_left}
 

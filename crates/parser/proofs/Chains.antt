@@ -19,7 +19,8 @@ use Rattle.predictive.proofs.Readings.{reading-whole}
 use Rattle.predictive.proofs.EventLaws.{length_events}
 use Rattle.predictive.proofs.Takes.{wrapped, takes}
 use Rattle.aadl.specs.Section.{Rule, grammar}
-use Rattle.parser.specs.Counters.{Counters, Started, Completed}
+use Rattle.parser.specs.declared.Counters.{Counters}
+use Rattle.parser.specs.Counters.{Started, Completed}
 use Rattle.parser.specs.declared.CompletedMarker.{CompletedMarker}
 use Rattle.parser.specs.Input.{Input, rest}
 use Rattle.parser.specs.State.{precede}

@@ -10,7 +10,7 @@ use lib.ListN.{length}
 use lib.Dec.{eqb, ltb}
 use Rattle.predictive.specs.Forest.{message, refusal}
 use Rattle.predictive.specs.Events.{Event, start, token, finish, error}
-use Rattle.parser.specs.Counters.{Counters}
+use Rattle.parser.specs.declared.Counters.{Counters}
 use Rattle.parser.specs.Input.{Input}
 use Rattle.parser.specs.Buffer.{room}
 use Rattle.parser.specs.State.{State, state, with_left, with_stop, one_used, going, stopped, appended, push_or_stop, push, halt, pass, passed, enter, emit, rewritten}

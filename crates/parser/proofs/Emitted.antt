@@ -9,7 +9,8 @@ use mathlib.Core.List.{List, [], ◌∷◌, ◌++◌}
 use lib.ListN.{length}
 use lib.Dec.{eqb, ltb}
 use Rattle.predictive.specs.Events.{Event, start, finish}
-use Rattle.parser.specs.Counters.{Counters, Started, Completed}
+use Rattle.parser.specs.declared.Counters.{Counters}
+use Rattle.parser.specs.Counters.{Started, Completed}
 use Rattle.parser.specs.declared.Marker.{Marker}
 use Rattle.parser.specs.Input.{Input, input, rest}
 use Rattle.parser.specs.Buffer.{room, put, named, linked}
@@ -19,7 +20,7 @@ use Rattle.parser.proofs.Buffer.{room-same, Below, named-below, linked-below, na
 use Rattle.parser.proofs.Pushing.{Goes, Stopped, goes-or_stopped, push-went, push-fits}
 use Rattle.parser.proofs.Marks.{complete-stopped, complete-goes, precede-links}
 use Rattle.parser.proofs.Emit.{emit-append, emit-long, emit-stopped, advance, advance-append, emit-advance, emit-went, rewritten-unseen, raised, raised-unseen, emit-unseen}
-use Rattle.parser.proofs.Counters.{advance-left, one-rest}
+use Rattle.parser.proofs.Counting.{advance-left, one-rest}
 
 abbrev parser-of : State → Counters
 parser-of s = s.parser

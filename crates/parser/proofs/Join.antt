@@ -18,14 +18,15 @@ use Rattle.predictive.proofs.Tests.{never}
 use Rattle.predictive.proofs.Heads.{at-append, in_l}
 use Rattle.predictive.proofs.Takes.{both, both-events, both_left, boxed, boxed-events, boxed-left}
 use Rattle.aadl.specs.Section.{Rule, rules, firsts, grammar}
-use Rattle.parser.specs.Counters.{Counters, Started, Completed}
+use Rattle.parser.specs.declared.Counters.{Counters}
+use Rattle.parser.specs.Counters.{Started, Completed}
 use Rattle.parser.specs.Input.{Input, rest}
 use Rattle.parser.specs.Buffer.{room, named}
 use Rattle.parser.specs.State.{State, state, with_left, push, halt, enter, emit}
 use Rattle.parser.specs.Reads.{stands, heads_of, reading_at, Emitted, Became, Read, Ran, Starts, Completes, ReadNode}
 use Rattle.parser.proofs.Pushing.{halt-stops}
 use Rattle.parser.proofs.Emit.{advance}
-use Rattle.parser.proofs.Counters.{advance-no_more, one-rest}
+use Rattle.parser.proofs.Counting.{advance-no_more, one-rest}
 use Rattle.parser.proofs.Emitted.{emitted, emitted-goes, emitted-advance, emitted-append, emitted-either, emitted-named, emitted-raised, emitted-started, emitted-completed, emitted-left}
 
 -- WHAT CAME OF A READING -----------------------------------------------------------------------------------------------

@@ -5,7 +5,7 @@ pub mod Tests
 pub mod Marks
 pub mod Emit
 pub mod Written
-pub mod Counters
+pub mod Counting
 pub mod Emitted
 pub mod Join
 pub mod Taking

@@ -17,12 +17,12 @@ use Rattle.predictive.proofs.Tests.{never}
 use Rattle.predictive.proofs.Heads.{at_end}
 use Rattle.predictive.proofs.Takes.{takes, takes_one}
 use Rattle.aadl.specs.Section.{Rule, grammar}
-use Rattle.parser.specs.Counters.{Counters}
+use Rattle.parser.specs.declared.Counters.{Counters}
 use Rattle.parser.specs.Input.{Input, rest}
 use Rattle.parser.specs.Buffer.{room}
 use Rattle.parser.specs.Reads.{stands, heads_of, reading_at, Became, Read}
 use Rattle.parser.proofs.Pushing.{goes-or_stopped}
-use Rattle.parser.proofs.Counters.{advance-fewer}
+use Rattle.parser.proofs.Counting.{advance-fewer}
 use Rattle.parser.proofs.Emitted.{emitted-advance}
 use Rattle.parser.proofs.Join.{became_goes, became_no_more, became_same, became_both, became_nothing, stands-goes, stands_at, read_left, read-long}
 

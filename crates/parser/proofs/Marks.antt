@@ -6,7 +6,8 @@ use mathlib.Core.List.{List}
 use lib.Dec.{ltb}
 use borrow.Author.Tests.{lt-ltb, le-ltb}
 use Rattle.predictive.specs.Events.{start, finish}
-use Rattle.parser.specs.Counters.{Counters, Started}
+use Rattle.parser.specs.declared.Counters.{Counters}
+use Rattle.parser.specs.Counters.{Started}
 use Rattle.parser.specs.Buffer.{room, put, named, linked}
 use Rattle.parser.specs.State.{State, state, going, push, rewritten, complete, precede}
 use Rattle.parser.specs.Reads.{Starts}

@@ -16,7 +16,8 @@ use Rattle.predictive.proofs.Lookahead.{single}
 use Rattle.predictive.proofs.Readings.{reading-whole}
 use Rattle.predictive.proofs.Takes.{boxed, wrapped, wrapped-events}
 use Rattle.aadl.specs.Section.{Rule, grammar}
-use Rattle.parser.specs.Counters.{Counters, Started, Completed, Operand}
+use Rattle.parser.specs.declared.Counters.{Counters}
+use Rattle.parser.specs.Counters.{Started, Completed, Operand}
 use Rattle.parser.specs.declared.CompletedMarker.{CompletedMarker}
 use Rattle.parser.specs.Input.{Input, rest}
 use Rattle.parser.specs.State.{precede, with_left}

@@ -21,7 +21,7 @@ use Rattle.parser.specs.declared.Tokens.{Tokens}
 use Rattle.parser.specs.declared.Parser.{Parser}
 use Rattle.parser.specs.declared.Marker.{Marker}
 use Rattle.parser.specs.declared.CompletedMarker.{CompletedMarker}
-use Rattle.parser.specs.Counters.{Counters}
+use Rattle.parser.specs.declared.Counters.{Counters}
 use Rattle.parser.specs.Input.{Input, input, rest, nth}
 use Rattle.parser.specs.Buffer.{room}
 use Rattle.parser.specs.State.{State, state, one_more, moved_on, appended, push, halt, pass, enter, precede}
@@ -55,9 +55,9 @@ from {d = d} {P = P} {a = a} {b = b} {c = c} {e = e} x y = subst (λ (inp : Inpu
 -- TOKENS ---------------------------------------------------------------------------------------------------------------
 
 -- what stands ahead does not depend on what was counted
-pub nth-uncounted : (p : Parser) (n : ℕ) → p.stop ≡ 0 → nth (source p.tokens) (cursor p.tokens) n ≡ nth (source p.tokens) (counters p) n
+pub nth-uncounted : (inp : Input) (p : Parser) (n : ℕ) → p.stop ≡ 0 → nth inp (cursor p.tokens) n ≡ nth inp (counters p) n
 unfolding rest
-nth-uncounted p n h = nth-goes (source p.tokens) (cursor p.tokens) n refl ∙ sym (nth-goes (source p.tokens) (counters p) n h)
+nth-uncounted inp p n h = nth-goes inp (cursor p.tokens) n refl ∙ sym (nth-goes inp (counters p) n h)
 
 -- A parser has room for one more event, or for none.
 pub fits : (p : Parser) → p.used < p.room → p.used < room p.events.now
@@ -95,6 +95,14 @@ takes-one p q k g l x e f =
       };
       same = record { text = x.same.text; words = x.same.words; events = x.same.events };
     })
+
+-- A token is passed and counted, with no event.
+pub passes : (p : Parser) {t : Tokens} {n : ℕ} {h : p.room ≡ room_in (length p.events.now)} → p.stop ≡ 0 → t ≡ moved_to (next_place p.tokens) p.tokens → n ≡ one_more p.taken →
+    Steps pass p
+    (record { tokens = t; events = p.events; taken = n; used = p.used; left = p.left; stop = p.stop; room = p.room; holds_so_many = h })
+passes p g e f =
+    rw (e, f)
+    (record { did = record { ran = sym (pass-goes (source p.tokens) (state (counters p) p.events.now) g) }; same = record { text = refl; words = refl; events = refl } })
 
 -- ONE AFTER THE OTHER --------------------------------------------------------------------------------------------------
 

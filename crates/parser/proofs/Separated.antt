@@ -9,7 +9,7 @@ use lib.ListN.{length}
 use Rattle.predictive.specs.Grammar.{Part, seq, many}
 use Rattle.predictive.proofs.Takes.{takes}
 use Rattle.aadl.specs.Section.{Rule}
-use Rattle.parser.specs.Counters.{Counters}
+use Rattle.parser.specs.declared.Counters.{Counters}
 use Rattle.parser.specs.Input.{Input}
 use Rattle.parser.specs.Reads.{stands, heads_of, Read}
 use Rattle.parser.proofs.Join.{read_left, read-long, r-seq}

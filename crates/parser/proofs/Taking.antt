@@ -13,7 +13,8 @@ use Rattle.predictive.proofs.Heads.{at_end, at_ones}
 use Rattle.predictive.proofs.Takes.{both, boxed}
 use Rattle.aadl.specs.Symbols.{shown}
 use Rattle.aadl.specs.Section.{Rule, grammar}
-use Rattle.parser.specs.Counters.{Counters, Started}
+use Rattle.parser.specs.declared.Counters.{Counters}
+use Rattle.parser.specs.Counters.{Started}
 use Rattle.parser.specs.Input.{Input, rest, END, ahead, nth}
 use Rattle.parser.specs.State.{State, state, push, precede, pass, passed, enter, emit}
 use Rattle.parser.specs.Reads.{stands, Ran, Emitted, Became, reading_at, Read, Starts}

@@ -18,7 +18,7 @@ use Rattle.aadl.specs.Bytes.{peek}
 use Rattle.aadl.specs.Tokens.{kind_in}
 use Rattle.aadl.specs.Symbols.{C_STYLE, symbol_of, shown}
 use Rattle.aadl.specs.Section.{keywords, property_name}
-use Rattle.parser.specs.Counters.{Counters}
+use Rattle.parser.specs.declared.Counters.{Counters}
 use Rattle.parser.specs.Input.{Input, standing, rest, END, ahead, nth}
 use Rattle.parser.specs.Reads.{stands, heads_of}
 use Rattle.parser.proofs.Trivia.{ahead-is, ahead-ends}

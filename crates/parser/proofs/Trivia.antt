@@ -13,7 +13,8 @@ use borrow.Author.Tests.{leb-true, leb-false}
 use Rattle.aadl.specs.Bytes.{peek}
 use Rattle.aadl.specs.Tokens.{kind_in, length_in}
 use Rattle.aadl.specs.Symbols.{is_trivia, symbol_of, Placed, placed}
-use Rattle.parser.specs.Counters.{Counters, Place}
+use Rattle.parser.specs.declared.Counters.{Counters}
+use Rattle.parser.specs.Counters.{Place}
 use Rattle.parser.specs.Input.{Input, token_in, without_trivia, standing, rest, past, skip, trivia_ahead, after_one, next, END, ahead}
 
 abbrev pub tail : List ℕ → List ℕ

@@ -12,13 +12,14 @@ use Rattle.predictive.specs.Events.{Event, start, finish, events, behind_start, 
 use Rattle.predictive.proofs.Proper.{Whole, whole-node, whole-wrap}
 use Rattle.predictive.proofs.Takes.{wrapped, wrapped-events, wrapped-left}
 use Rattle.aadl.specs.Section.{Rule, grammar}
-use Rattle.parser.specs.Counters.{Counters, Started, Completed}
+use Rattle.parser.specs.declared.Counters.{Counters}
+use Rattle.parser.specs.Counters.{Started, Completed}
 use Rattle.parser.specs.Input.{Input, rest}
 use Rattle.parser.specs.Buffer.{room, named, linked}
 use Rattle.parser.specs.State.{state, precede}
 use Rattle.parser.specs.Reads.{reading_at, Emitted, Became, Read, Starts, Completes}
 use Rattle.parser.proofs.Emit.{advance, advance-append, emit-advance}
-use Rattle.parser.proofs.Counters.{advance-stopped}
+use Rattle.parser.proofs.Counting.{advance-stopped}
 use Rattle.parser.proofs.Emitted.{emitted-goes, emitted-used, emitted-advance, emitted-append, emitted-stopped, emitted-named, emitted-linked, emitted-preceded, emitted-completed, advance-start}
 use Rattle.parser.proofs.Join.{became_goes, rest-started, rest-finished}
 

@@ -10,7 +10,7 @@ use lib.ListN.{length, drop}
 use lib.Seq.{sets, sets-eq}
 use Rattle.predictive.specs.Events.{Event, token}
 use Rattle.aadl.specs.Encoding.{event_word, words_for, cut_to_word}
-use Rattle.parser.specs.Counters.{Counters}
+use Rattle.parser.specs.declared.Counters.{Counters}
 use Rattle.parser.specs.Input.{Input}
 use Rattle.parser.specs.Buffer.{room, put}
 use Rattle.parser.specs.State.{State, state, push, enter, emit}

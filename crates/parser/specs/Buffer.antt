@@ -3,7 +3,7 @@
 use Rattle.std.specs.Prelude.{ℕ, ◌+◌, ◌*◌, ◌/◌, List, length, get_or, set}
 use Rattle.predictive.specs.Events.{Event, start}
 use Rattle.aadl.specs.Encoding.{event_word, words_for, cut_to_word, room as room_in}
-use Rattle.parser.specs.Counters.{Counters}
+use Rattle.parser.specs.declared.Counters.{Counters}
 
 -- for how many events they have room
 unfoldable pub room : List ℕ → ℕ

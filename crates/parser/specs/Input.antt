@@ -4,7 +4,8 @@ use Rattle.aadl.specs.declared.Token.{Token}
 use Rattle.aadl.specs.Bytes.{peek}
 use Rattle.aadl.specs.Tokens.{token, kind_in, length_in}
 use Rattle.aadl.specs.Symbols.{is_trivia, symbol_of, Placed, placed}
-use Rattle.parser.specs.Counters.{Counters, Place}
+use Rattle.parser.specs.declared.Counters.{Counters}
+use Rattle.parser.specs.Counters.{Place}
 
 pub record Input : Type 0 where
   pub text : List ℕ

@@ -8,7 +8,8 @@ use Rattle.parser.specs.declared.Tokens.{Tokens}
 use Rattle.parser.specs.declared.Parser.{Parser}
 use Rattle.parser.specs.declared.Marker.{Marker}
 use Rattle.parser.specs.declared.CompletedMarker.{CompletedMarker}
-use Rattle.parser.specs.Counters.{Place, Counters}
+use Rattle.parser.specs.declared.Counters.{Counters}
+use Rattle.parser.specs.Counters.{Place}
 use Rattle.parser.specs.Input.{Input, input, skip, after_one}
 use Rattle.parser.specs.State.{State}
 use Rattle.parser.specs.Reads.{stands, Ran, Starts, Completes, Read, ReadNode, ReadOperand}

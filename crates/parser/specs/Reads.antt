@@ -5,7 +5,8 @@ use Rattle.predictive.specs.Grammar.{Head, at, Part}
 use Rattle.predictive.specs.Reader.{Result, miss, done, read, first}
 use Rattle.predictive.specs.Events.{Event, behind_start, events_of, left_over}
 use Rattle.aadl.specs.Section.{Rule, grammar}
-use Rattle.parser.specs.Counters.{Counters, Started, Completed, Operand}
+use Rattle.parser.specs.declared.Counters.{Counters}
+use Rattle.parser.specs.Counters.{Started, Completed, Operand}
 use Rattle.parser.specs.declared.Marker.{Marker}
 use Rattle.parser.specs.declared.CompletedMarker.{CompletedMarker}
 use Rattle.parser.specs.Input.{Input, rest}

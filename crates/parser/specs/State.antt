@@ -3,7 +3,8 @@ use Rattle.std.specs.Prelude.{ℕ, ◌+◌, ◌-◌, max, min, cond, List, [], �
 use Rattle.predictive.specs.Forest.{message, refusal}
 use Rattle.predictive.specs.Events.{Event, start, token, finish, error}
 use Rattle.aadl.specs.Limits.{most_events}
-use Rattle.parser.specs.Counters.{Counters, Place}
+use Rattle.parser.specs.declared.Counters.{Counters}
+use Rattle.parser.specs.Counters.{Place}
 use Rattle.parser.specs.Input.{Input, next}
 use Rattle.parser.specs.Buffer.{room, put, named, linked}
 

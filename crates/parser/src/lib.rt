@@ -57,6 +57,18 @@ pub struct Parser<'a> {
     ghost holds_so_many: { room ≡ room_in (length events.now) },
 }
 
+// Where a parser stands, and what it has counted: the number of the next token's word and where that token starts, the non-trivia tokens taken, the
+// events pushed, the openers left, and the number of the refusal that stopped reading, or 0.
+#[derive(Clone, Copy)]
+pub struct Counters {
+    pub at: usize,
+    pub byte: usize,
+    pub taken: usize,
+    pub used: usize,
+    pub left: usize,
+    pub stop: usize,
+}
+
 // The Start of a node that is open.
 #[derive(Clone, Copy)]
 pub struct Marker(usize);
@@ -188,7 +200,7 @@ impl<'a> Tokens<'a> {
 
     // The kind of the token where these stand, or the end's symbol: a C-style literal shows ERROR, so the text is not asked.
     pub fn kind(self) -> u32
-        ensures { result ≡ Sym.shown (I.nth (source self.entry) (cursor self.entry) 0) }
+        ensures { (text : List ℕ) → result ≡ Sym.shown (I.nth (I.input text self.entry.words.now) (cursor self.entry) 0) }
     {
         if self.at < self.words.len() {
             return kind_in(self.words[self.at]);
@@ -267,6 +279,20 @@ impl<'a> Parser<'a> {
         }
     }
 
+    // A copy of what it has counted.
+    pub fn counters(&self) -> Counters
+        ensures { result ≡ counters self.now }
+    {
+        Counters {
+            at: self.tokens.at,
+            byte: self.tokens.byte,
+            taken: self.taken,
+            used: self.used,
+            left: self.left,
+            stop: self.stop,
+        }
+    }
+
     // The symbol where the parser stands; the end's once it stopped.
     #[inline(always)]
     pub fn current(&self) -> u32
@@ -289,7 +315,7 @@ impl<'a> Parser<'a> {
 
     // The kind of the token where the parser stands, or the end's symbol.
     pub fn kind(&self) -> u32
-        ensures { result ≡ Sym.shown (I.nth (source self.now.tokens) (counters self.now) 0) }
+        ensures { (text : List ℕ) → result ≡ Sym.shown (I.nth (I.input text self.now.tokens.words.now) (counters self.now) 0) }
     {
         if self.stop != 0 {
             return END;
@@ -338,6 +364,17 @@ impl<'a> Parser<'a> {
             return self.nth(1) == COLON;
         }
         false
+    }
+
+    // Passes the token where the parser stands, and counts it, with no event; does nothing once it stopped. Among the crates here none does so, since
+    // `Tokens` serve who counts nothing.
+    pub fn pass(&mut self)
+        ensures { Steps (λ source. S.pass source) self.old self.new }
+    {
+        if self.stop == 0 {
+            self.tokens.pass();
+            self.taken = one_more(self.taken);
+        }
     }
 
     // Stops the parser, by the number of the refusal.

@@ -1,5 +1,5 @@
 -- The numbers with which a record begins. Assumes nothing.
-use Rattle.std.specs.Prelude.{ℕ, ◌+◌, ◌*◌, Bool, cond, ◌&&◌, List, get_or, eqb, Option, Some, None}
+use Rattle.std.specs.Prelude.{ℕ, ◌+◌, ◌*◌, Bool, cond, ◌&&◌, List, get_or, eqb, Option, Some, None, unwrap_or}
 use Rattle.std.specs.Option.{option_map}
 use Rattle.replay.specs.declared.Request.{Request}
 use Rattle.replay.specs.declared.Request.TheVariants.{Plain, Tree, Parts, Value}
@@ -51,6 +51,10 @@ extended_head front back = cond (eqb (number_at front 8) none) (option_map (head
 
 unfoldable pub record_head : (front back : List ℕ) → Option Head
 record_head front back = cond (extended front) (extended_head front back) (Some (head_from front Plain))
+
+-- How many event words a record asks for: where it has none, 0.
+abbrev pub lent_events : Head → ℕ
+lent_events h = unwrap_or h.events 0
 
 -- How many record words a record asks for.
 abbrev pub records_of : Request → ℕ

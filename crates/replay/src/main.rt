@@ -9,7 +9,7 @@ ghost use Rattle.std.specs.Prelude.{◌≤◌, ◌≡◌, false, length, replica
 ghost use Rattle.aadl.specs.Words.{bytes};
 ghost use Rattle.writing.specs.Written.{Writes};
 ghost use Rattle.replay.specs.Calls.{MakesCall, called, tree_called, parts_called, value_called, made_of, StandsWhole};
-ghost use Rattle.replay.specs.Heads.{number_at, request_of, head_from, extended, record_head, lent_records};
+ghost use Rattle.replay.specs.Heads.{number_at, request_of, head_from, extended, record_head, lent_events, lent_records};
 
 use aadl::Answer;
 use replay_lines::{fill, put_parts, put_record, put_tree, put_valued};
@@ -223,6 +223,13 @@ fn failed<R: Eprint>(rt: &R, why: io::Error, w: &mut Writer) -> bool
     false
 }
 
+// How many event words a record asks for.
+fn lent_events(h: Head) -> usize
+    ensures { result ≡ lent_events h }
+{
+    h.events.unwrap_or(0)
+}
+
 // How many record words a record asks for.
 fn lent_records(h: Head) -> usize
     ensures { result ≡ lent_records h }
@@ -257,7 +264,7 @@ fn lend(
 ) -> bool {
     let n = h.text;
     let t = h.tokens;
-    let e = h.events.unwrap_or(0);
+    let e = lent_events(h);
     let m = lent_records(h);
     if text.len() < n || tokens.len() < t || events.len() < e || records.len() < m {
         return bad(w);
@@ -286,7 +293,7 @@ fn answer_record<R: Eprint, F: Read>(
     match read_full(from, &mut all.text[..n]) {
         Ok(count) if count < n => bad(w),
         Ok(_) => lend(h, all.text, all.tokens, all.events, all.records, w),
-        Err(why) => failed(rt, why, w),
+        Err(cut) => failed(rt, cut.why, w),
     }
 }
 
@@ -299,13 +306,13 @@ fn turn<R: Eprint, F: Read>(rt: &R, from: &mut F, all: &mut Lent, w: &mut Writer
         Ok(0) => return false,
         Ok(count) if count < 12 => return bad(w),
         Ok(_) => {}
-        Err(why) => return failed(rt, why, w),
+        Err(cut) => return failed(rt, cut.why, w),
     }
     if is_extended(&front) {
         match read_full(from, &mut back) {
             Ok(count) if count < 16 => return bad(w),
             Ok(_) => {}
-            Err(why) => return failed(rt, why, w),
+            Err(cut) => return failed(rt, cut.why, w),
         }
     }
     match head_of(&front, &back) {

@@ -39,10 +39,7 @@ fn scan_whitespace(s: &[u8], at: usize) -> Token
     requires { Begins s.now at (# WHITE) }
     ensures { result ≡ token_of (drop at s.now) }
 {
-    if !in_class(peek(s, at + 1), SPACES) {
-        return token(WHITESPACE, 1);
-    }
-    token(WHITESPACE, 1 + run(&s[at + 1..], SPACES))
+    token(WHITESPACE, run_end(s, at + 1, SPACES) - at)
 }
 
 // The comment whose `--` is at a place: up to the end of its line.
@@ -330,7 +327,7 @@ impl<'a> Scanner<'a> {
     {
         let s = self.text;
         if self.bound < from {
-            return run_end(s, from, WORD);
+            return from + run(&s[from..], WORD);
         }
         let mut i = from;
         loop {

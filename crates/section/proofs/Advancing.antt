@@ -18,11 +18,11 @@ use Rattle.aadl.specs.Reading.{pushed}
 use Rattle.aadl.specs.Answers.{answered, refused, token_words}
 use Rattle.aadl.proofs.Lists.{Each}
 use Rattle.aadl.proofs.Refusals.{Refuses6}
-use Rattle.parser.specs.Counters.{Counters}
+use Rattle.parser.specs.declared.Counters.{Counters}
 use Rattle.parser.specs.Input.{Input, input, next}
 use Rattle.parser.specs.State.{with_stop, one_used, one_more}
 use Rattle.parser.proofs.Emit.{advance}
-use Rattle.parser.proofs.Counters.{advance-stopped}
+use Rattle.parser.proofs.Counting.{advance-stopped}
 use Rattle.section.specs.Replies.{reply}
 use Rattle.section.specs.Standing.{Behind}
 use Rattle.section.proofs.Places.{behind-byte, next-behind}

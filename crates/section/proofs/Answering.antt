@@ -19,7 +19,7 @@ use Rattle.aadl.specs.Promises.{TokensCalled, SectionCalled}
 use Rattle.aadl.proofs.Settled.{number_small}
 use Rattle.aadl.proofs.Extending.{did-same, on-refused, own-refuses, none-refuses}
 use Rattle.aadl.proofs.CallsRead.{exit-at, tokens-sound, tokens-settled, tokens-whole, tokens-read, section-promised}
-use Rattle.parser.specs.Counters.{Counters}
+use Rattle.parser.specs.declared.Counters.{Counters}
 use Rattle.section.specs.Replies.{reply, section_reply, Sectioned}
 
 reply-stopped : (t : ℕ) (p : Counters) → (p.stop ≡ 0 → ⊥) → reply t p ≡ refused p.stop p.byte

@@ -12,7 +12,7 @@ use Rattle.aadl.specs.Symbols.{raw_number}
 use Rattle.aadl.specs.Encoding.{event_word, cut_to_word, words_of}
 use Rattle.aadl.specs.Answers.{token_words}
 use Rattle.aadl.proofs.TokensCover.{tokens-within_text}
-use Rattle.parser.specs.Counters.{Counters}
+use Rattle.parser.specs.declared.Counters.{Counters}
 use Rattle.parser.specs.Input.{Input, input}
 use Rattle.parser.specs.State.{State, passed, pass, push, enter, emit}
 use Rattle.parser.proofs.Pushing.{Goes, push-went, halt-stops, pass-goes}

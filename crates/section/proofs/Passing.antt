@@ -7,7 +7,7 @@ use lib.ListN.{length}
 use borrow.Author.Tests.{eq-eqb}
 use Rattle.aadl.specs.Symbols.{start_of}
 use Rattle.aadl.specs.Answers.{token_words}
-use Rattle.parser.specs.Counters.{Counters}
+use Rattle.parser.specs.declared.Counters.{Counters}
 use Rattle.parser.specs.Input.{Input, input, new}
 use Rattle.parser.specs.State.{State, state, going, passed, pass}
 use Rattle.parser.specs.Reads.{Ran}

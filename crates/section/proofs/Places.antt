@@ -13,7 +13,8 @@ use Rattle.aadl.specs.Bytes.{peek}
 use Rattle.aadl.specs.Tokens.{kind_in, tokens, length_in, total, token_word}
 use Rattle.aadl.specs.Symbols.{is_trivia, symbol_of, Placed, placed, symbols, start_of, raw_numbers, raw_number}
 use Rattle.aadl.specs.Answers.{token_words}
-use Rattle.parser.specs.Counters.{Counters, Place}
+use Rattle.parser.specs.declared.Counters.{Counters}
+use Rattle.parser.specs.Counters.{Place}
 use Rattle.parser.specs.Input.{input, standing, rest, past, skip, after_one, next, new}
 use Rattle.section.specs.Standing.{placed_words, numbers_in, Solid, Stood, Behind}
 use Rattle.section.proofs.WordsBack.{placed-back, numbers-back, total-token_words}

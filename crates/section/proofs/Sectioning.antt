@@ -23,7 +23,7 @@ use Rattle.aadl.proofs.Refusals.{events-refuse_6}
 use Rattle.std.specs.Borrow.{Bor, MutBor}
 use Rattle.parser.specs.declared.Parser.{Parser}
 use Rattle.parser.specs.declared.Tokens.{Tokens}
-use Rattle.parser.specs.Counters.{Counters}
+use Rattle.parser.specs.declared.Counters.{Counters}
 use Rattle.parser.specs.Input.{Input, input, rest, new}
 use Rattle.parser.specs.Buffer.{room}
 use Rattle.parser.specs.State.{State, state, halt}
@@ -157,8 +157,10 @@ module _ (limits : Limits) {text : Bor (List ℕ)} {ws : Bor (List ℕ)} {events
           (subst (λ (b : List ℕ). Read i p.left section (counters p) b (counters r) r.events.now) d
           (subst (λ (i : Input). Read i p.left section (counters p) p.events.now (counters r) r.events.now) c y.did))
 
-  pub sectioned : {r : Parser} → ReadsSection p r → Sectioned limits text.now events.now (counters r) r.events.now
-  sectioned {r} y = go (stand (one (# PROPERTIES_KW) ∷ []) p) refl
+  -- the section's reader, q being what its parser counted
+  pub sectioned : {r : Parser} {q : Counters} → ReadsSection p r → q ≡ counters r → Sectioned limits text.now events.now q r.events.now
+  sectioned {r} y told =
+      subst (λ (q : Counters). Sectioned limits text.now events.now q r.events.now) (sym told) (go (stand (one (# PROPERTIES_KW) ∷ []) p) refl)
     where
       go : (t : Bool) → stand (one (# PROPERTIES_KW) ∷ []) p ≡ t → Sectioned limits text.now events.now (counters r) r.events.now
       go true e = code_reads e (y.read e)

@@ -8,7 +8,7 @@ use lib.ListN.{length, take, drop}
 use Rattle.aadl.specs.Tokens.{tokens, total}
 use Rattle.aadl.specs.Symbols.{placed, raw_numbers, raw_number}
 use Rattle.aadl.specs.Answers.{token_words}
-use Rattle.parser.specs.Counters.{Counters}
+use Rattle.parser.specs.declared.Counters.{Counters}
 use Rattle.parser.specs.Input.{Input, input, next, new}
 use Rattle.section.specs.Standing.{Stood, Behind}
 use Rattle.section.proofs.WordsBack.{total-token_words}

@@ -9,7 +9,7 @@ use Rattle.predictive.specs.Grammar.{one}
 use Rattle.aadl.specs.Kinds.{#◌, PROPERTIES_KW}
 use Rattle.aadl.specs.Section.{section}
 use Rattle.parser.specs.declared.Parser.{Parser}
-use Rattle.parser.specs.Counters.{Counters}
+use Rattle.parser.specs.declared.Counters.{Counters}
 use Rattle.parser.specs.State.{halt}
 use Rattle.parser.specs.Parsers.{Same, stand, Steps, ReadsWithin}
 

@@ -3,7 +3,7 @@ use Rattle.std.specs.Prelude.{ℕ, ◌+◌, ◌≡◌, false, List, [], ◌∷�
 use Rattle.aadl.specs.Tokens.{kind_in, tokens, total}
 use Rattle.aadl.specs.Symbols.{is_trivia, Placed, placed, raw_numbers}
 use Rattle.aadl.specs.Answers.{token_words}
-use Rattle.parser.specs.Counters.{Counters}
+use Rattle.parser.specs.declared.Counters.{Counters}
 use Rattle.parser.specs.Input.{token_in}
 
 -- the non-trivia tokens of words, the first of which starts at a byte

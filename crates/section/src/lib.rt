@@ -2,7 +2,7 @@
 
 #![tactic(auto)]
 
-ghost use Rattle.std.specs.Prelude.{◌≡◌, not, take, count_by};
+ghost use Rattle.std.specs.Prelude.{◌≡◌, cond, not, take, count_by};
 ghost use Rattle.predictive.specs.Events.{erring, any_fault};
 ghost use Rattle.aadl.specs.Limits.{base, Allowed};
 ghost use Rattle.aadl.specs.Symbols as Sym;
@@ -47,18 +47,17 @@ pub fn property_section_within(
     let count = a.tokens;
     let mut p = Parser::new(src, &tokens[..count], events, limits.openers);
     read(&mut p);
-    let stop = p.stop;
-    if stop != 0 {
-        let place = p.tokens.byte;
+    let c = p.counters();
+    if c.stop != 0 {
         clear(events);
-        return refuse(tokens, stop as u32, place);
+        return refuse(tokens, c.stop as u32, c.byte);
     }
     Answer {
         number: 0,
         place: 0,
         tokens: count,
-        taken: p.taken,
-        events: p.used,
+        taken: c.taken,
+        events: c.used,
     }
 }
 
@@ -86,7 +85,10 @@ fn any_error(events: &[u32], count: usize) -> bool
 fn solid_in(words: &[u32]) -> usize
     ensures { result ≡ count_by (λ w. not (Sym.is_trivia (T.kind_in w))) words.now }
 {
-    words.iter().filter(|w| !is_trivia(kind_in(**w))).count()
+    let one_solid = |w: &u32| -> usize
+        ensures { result ≡ cond (not (Sym.is_trivia (T.kind_in w.now))) 1 0 }
+    { usize::from(!is_trivia(kind_in(*w))) };
+    words.iter().map(one_solid).sum()
 }
 
 // .. of the first words.

@@ -3,8 +3,9 @@
 
 #![tactic(auto)]
 
-ghost use Rattle.std.specs.Prelude.{◌≤◌, ◌≡◌, length, IfOk, IfSome};
-ghost use Rattle.streams.specs.Outcomes.{outcome_of, behind};
+ghost use Rattle.std.specs.Prelude.{◌≤◌, ◌≡◌, ◌+◌, length};
+ghost use Rattle.std.specs.Result.{MatchResult};
+ghost use Rattle.streams.specs.Outcomes.{outcome_of, behind, Moves, AtMost};
 
 use std::io;
 use std::io::{Eprint, ErrorKind, Print, Read, Write};
@@ -23,70 +24,105 @@ fn came_to(got: io::Result<usize>) -> io::Result<Option<usize>>
     }
 }
 
-// What a call of `write` comes to: one that moved no byte has failed, and there is a reason for it.
+// A call that failed: why, and how many bytes the calls before it moved.
+#[derive(Clone, Copy)]
+pub struct Cut {
+    pub count: usize,
+    pub why: io::Error,
+}
+
+// How a loop of calls stands behind one that did not fail, and how many bytes are moved: it goes on, or no byte was left to move.
+#[derive(Clone, Copy)]
+pub enum Progress {
+    On(usize),
+    Ended(usize),
+}
+
+// How a loop of calls stands behind one, `count` bytes being moved before it. That no byte was left to move may be fatal, for a reason.
 #[tactic(auto, unfolding(crate::specs::Outcomes::behind))]
-fn after(o: io::Result<Option<usize>>, why: io::Error) -> io::Result<usize>
-    ensures { result ≡ behind why o }
+fn after(
+    count: usize,
+    o: io::Result<Option<usize>>,
+    fatal: Option<io::Error>,
+) -> Result<Progress, Cut>
+    requires { Moves o (λ n. count + n ≤ 18446744073709551615) }
+    ensures { result ≡ behind count o fatal }
 {
-    o?.ok_or(why)
+    match o {
+        Ok(Some(n)) => Ok(Progress::On(count + n)),
+        Ok(None) => match fatal {
+            Some(why) => Err(Cut { count, why }),
+            None => Ok(Progress::Ended(count)),
+        },
+        Err(why) => Err(Cut { count, why }),
+    }
 }
 
-// One read. At the input's end there is `None`; a write that moves nothing has failed, so reads and writes stay two.
-fn read_once<R: Read>(from: &mut R, buf: &mut [u8]) -> io::Result<Option<usize>>
-    ensures { IfOk result (λ o. IfSome o (λ n. n ≤ length buf.old)) }
+// One read behind the bytes that are read.
+fn read_once<R: Read>(from: &mut R, buf: &mut [u8], count: usize) -> Result<Progress, Cut>
+    requires { count ≤ length buf.old }
+    ensures { AtMost (length buf.old) result }
 {
-    came_to(from.read(buf))
+    after(count, came_to(from.read(&mut buf[count..])), None)
 }
 
-// One write. The error of a call that failed is kept.
-fn write_once<W: Write>(to: &mut W, buf: &[u8], why: &mut io::Error) -> io::Result<usize>
-    ensures { IfOk result (λ n. n ≤ length buf.now) }
+// One write of the bytes that are not written yet. The error of a call that failed is kept; one that moved no byte has failed.
+fn write_once<W: Write>(
+    to: &mut W,
+    buf: &[u8],
+    count: usize,
+    why: &mut io::Error,
+) -> Result<Progress, Cut>
+    requires { count ≤ length buf.now }
+    ensures { AtMost (length buf.now) result }
 {
-    let got = to.write(buf);
+    let got = to.write(&buf[count..]);
     if let Err(e) = &got {
         *why = *e;
     }
-    after(came_to(got), *why)
+    after(count, came_to(got), Some(*why))
 }
 
 // Reads until the bytes are full, the input ends or a read fails. A proved loop has to end, and nothing says that the input does: so it has a number of
 // turns, one that no run uses up.
-pub fn read_full<R: Read>(from: &mut R, buf: &mut [u8]) -> io::Result<usize>
-    ensures { IfOk result (λ n. n ≤ length buf.old) }
+pub fn read_full<R: Read>(from: &mut R, buf: &mut [u8]) -> Result<usize, Cut>
+    ensures { MatchResult result (λ n. n ≤ length buf.old) (λ cut. cut.count ≤ length buf.old) }
 {
     let mut count = 0;
     for _ in 0..u64::MAX {
         if buf.len() <= count {
             break;
         }
-        match read_once(from, &mut buf[count..])? {
-            Some(n) => count += n,
-            None => break,
+        match read_once(from, buf, count)? {
+            Progress::On(read) => count = read,
+            Progress::Ended(read) => return Ok(read),
         }
     }
     Ok(count)
 }
 
 // Writes the bytes. Of a write that took no byte the error is the one of the last call before it that was interrupted, if there was one.
-fn write_full<W: Write>(to: &mut W, buf: &[u8]) -> io::Result<()> {
+fn write_full<W: Write>(to: &mut W, buf: &[u8]) -> Result<(), Cut> {
     let mut why = io::Error::from(ErrorKind::WriteZero);
-    let mut rest = buf;
+    let mut count = 0;
     for _ in 0..u64::MAX {
-        if rest.is_empty() {
+        if buf.len() <= count {
             return Ok(());
         }
-        let n = write_once(to, rest, &mut why)?;
-        rest = &rest[n..];
+        match write_once(to, buf, count, &mut why)? {
+            Progress::On(written) => count = written,
+            Progress::Ended(_) => break,
+        }
     }
-    Err(why)
+    Err(Cut { count, why })
 }
 
 // Writes the bytes to standard output, and says whether all of them went out; a failure is told on standard error.
 pub fn write_out<R: Print + Eprint>(rt: &R, buf: &[u8]) -> bool {
     match write_full(&mut io::writer(rt), buf) {
         Ok(()) => true,
-        Err(why) => {
-            tell(rt, "standard output", &Some(why));
+        Err(cut) => {
+            tell(rt, "standard output", &Some(cut.why));
             false
         }
     }

@@ -1,14 +1,10 @@
 -- Bytes written one after the other are written at once, whether or not all of them have room. Assumes nothing.
-use Prim.Native.Nat.{ℕ, suc, ◌+◌, ◌-◌, ◌≤◌, min}
+use Prim.Native.Nat.{ℕ, suc, ◌+◌, ◌≤◌, min}
 use native.Mathlib.Omega.{arith}
 use mathlib.Core.Path.{◌≡◌, refl, sym, ap, subst, ◌∙◌}
-use mathlib.Core.Bool.{Bool, true, false}
-use mathlib.Core.List.{List, [], ◌∷◌, ◌++◌, append_assoc}
-use lib.ListN.{length, take, drop, set, length-append, take-append-drop}
-use lib.Seq.{sets, sets-eq, length-sets, set_out, take_at, take_all, drop-drop, length-take-le}
-use lib.Dec.{leb}
-use borrow.Author.Tests.{leb-true, leb-false}
-use borrow.Rule.Slice.PartMut.{put_mid}
+use mathlib.Core.List.{List, [], ◌∷◌, ◌++◌}
+use lib.ListN.{length, take, drop, set, length-append}
+use lib.Seq.{sets, sets-eq, length-sets, set_out, take_at}
 use Rattle.writing.specs.declared.Writer.{Writer}
 use Rattle.writing.specs.Written.{Wrote, Writes}
 use Rattle.writing.proofs.LeastLaws.{at_least}
@@ -28,37 +24,7 @@ sets_out l i (v ∷ vs) h = ap (λ (k : List ℕ). sets k (suc i) vs) (set_out l
 sets_from : (l : List ℕ) (i : ℕ) (vs : List ℕ) → sets l (min i (length l)) vs ≡ sets l i vs
 sets_from l i vs = at_least (λ (k : ℕ). sets l k vs) (length l) (λ k h. sets_out l k vs h ∙ sym (sets_out l (length l) vs (omega arith))) i
 
--- only as many are stored as there are places
-sets_front : (l : List ℕ) (i n : ℕ) (vs : List ℕ) → i ≤ length l → n ≡ min (length vs) (length l - i) → sets l i vs ≡ sets l i (take n vs)
-sets_front l i n vs h e = go (leb (length vs) (length l - i)) refl
-  where
-    go : (t : Bool) → leb (length vs) (length l - i) ≡ t → sets l i vs ≡ sets l i (take n vs)
-    go true f =
-        let k : n ≡ length vs = omega (arith, leb-true _ _ f) in
-        ap (sets l i) (sym (ap (λ (m : ℕ). take m vs) k ∙ take_all (length vs) vs (omega arith)))
-    go false f =
-        let k = leb-false _ _ f in
-        let long = length-take-le n vs (omega arith) in
-        ap (sets l i) (sym (take-append-drop n vs)) ∙ sets_append l i (take n vs) (drop n vs)
-        ∙ sets_out (sets l i (take n vs)) (i + length (take n vs)) (drop n vs) (omega (arith, long, length-sets l i (take n vs)))
-
 -- BYTES AFTER BYTES ----------------------------------------------------------------------------------------------------
-
--- a text's front pasted where there is room for it
-pub wrote_front : (old vs : List ℕ) (at from n k : ℕ) (front : List ℕ) → from ≡ min at (length old) → n ≡ min (length vs) (length old - from) → k ≡ n →
-    front ≡ take n vs → Wrote old at vs (put_mid from k old front) (from + n)
-wrote_front old vs at from n k front e f p q =
-    let long = length-take-le n vs (omega arith) in
-    let fits : from + length (take n vs) ≤ length old = omega (arith, long) in
-    let behind : drop k (drop from old) ≡ drop (from + length (take n vs)) old =
-    drop-drop k from old ∙ ap (λ (m : ℕ). drop m old) (omega (arith, long)) in
-    record {
-      ends = omega arith;
-      holds =
-          (λ i. take from old ++ (q i ++ behind i)) ∙ sym (append_assoc (take from old) (take n vs) (drop (from + length (take n vs)) old))
-          ∙ sym (sets-eq (take n vs) old from fits) ∙ sym (sets_front old from n vs (omega arith) f)
-          ∙ ap (λ (m : ℕ). sets old m vs) e ∙ sets_from old at vs;
-    }
 
 pub wrote-long : {old vs new : List ℕ} {i n : ℕ} → Wrote old i vs new n → length new ≡ length old
 wrote-long {old} {vs} {new} {i} {n} w = ap length w.holds ∙ length-sets old i vs

@@ -40,17 +40,19 @@ impl<'a> Writer<'a> {
     pub fn put_byte(&mut self, b: u8)
         ensures { Writes self.old (b ∷ []) self.new }
     {
-        self.put_text(&[b]);
+        if self.at < self.out.len() {
+            self.out[self.at] = b;
+            self.at += 1;
+        }
     }
 
     // Writes a text.
     pub fn put_text(&mut self, text: &[u8])
         ensures { Writes self.old text.now self.new }
     {
-        let from = self.at;
-        let count = text.len().min(self.out.len() - from);
-        self.at = from + count;
-        self.out[from..from + count].copy_from_slice(&text[..count]);
+        for b in text {
+            self.put_byte(*b);
+        }
     }
 
     // Writes a number as the library prints it.

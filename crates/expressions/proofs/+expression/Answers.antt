@@ -100,19 +100,19 @@ not_value-returns t c =
 
 pub opened-returns-in-108 : goal.opened-returns-in-108
 unfolding first null ones read step
-opened-returns-in-108 t c = arm 108 (refl, refl, refl) (λ n ys. refl) c.kind.ensures c.in-108.is c.not_value.ensures
+opened-returns-in-108 t c = arm 108 (refl, refl, refl) (λ n ys. refl) (c.kind.ensures _) c.in-108.is c.not_value.ensures
 
 pub opened-returns-in-10 : goal.opened-returns-in-10
 unfolding first null ones read step
-opened-returns-in-10 t c = arm 10 (refl, refl, refl) (λ n ys. refl) c.kind.ensures c.in-10.is c.list_value.ensures
+opened-returns-in-10 t c = arm 10 (refl, refl, refl) (λ n ys. refl) (c.kind.ensures _) c.in-10.is c.list_value.ensures
 
 pub opened-returns-in-14 : goal.opened-returns-in-14
 unfolding first null ones read step
-opened-returns-in-14 t c = arm 14 (refl, refl, refl) (λ n ys. refl) c.kind.ensures c.in-14.is c.record_value.ensures
+opened-returns-in-14 t c = arm 14 (refl, refl, refl) (λ n ys. refl) (c.kind.ensures _) c.in-14.is c.record_value.ensures
 
 pub opened-returns-in_default : goal.opened-returns-in_default
 unfolding first null ones read step
-opened-returns-in_default t c = sign-else c.kind.ensures (assumption) c.signed_value.ensures
+opened-returns-in_default t c = sign-else (c.kind.ensures _) (assumption) c.signed_value.ensures
 
 pub opener-returns-then-left-eq0 : goal.opener-returns-then-left-eq0
 unfolding first null ones read step
@@ -222,43 +222,43 @@ unfolding first keywords names null ones read step take_any take_one take_wrong
 property_expression_primary-no_operand-requires t c =
     let p = c.args.p.now in
     let x = c.kind-kind.result in
-    none-begins (source p.tokens) (counters p) c.kind-kind.ensures (sym c.at_opener.ensures ∙ c.if-at_opener.false)
+    none-begins (source p.tokens) (counters p) (c.kind-kind.ensures _) (sym c.at_opener.ensures ∙ c.if-at_opener.false)
     (or_l (eqb x 106) (eqb x 107) c.if-kind.false) (or_r (eqb x 106) (eqb x 107) c.if-kind.false) (assumption)
 
 pub property_expression_primary-returns-in-30 : goal.property_expression_primary-returns-in-30
 unfolding first keywords names null ones read step take_any take_one take_wrong
-property_expression_primary-returns-in-30 t c = arm 30 (refl, refl, refl) (λ n ys. refl) c.kind-kind.ensures c.in-30.is (c.integer_value.ensures _)
+property_expression_primary-returns-in-30 t c = arm 30 (refl, refl, refl) (λ n ys. refl) (c.kind-kind.ensures _) c.in-30.is (c.integer_value.ensures _)
 
 pub property_expression_primary-returns-in-31 : goal.property_expression_primary-returns-in-31
 unfolding first keywords names null ones read step take_any take_one take_wrong
-property_expression_primary-returns-in-31 t c = arm 31 (refl, refl, refl) (λ n ys. refl) c.kind-kind.ensures c.in-31.is (c.real_value.ensures _)
+property_expression_primary-returns-in-31 t c = arm 31 (refl, refl, refl) (λ n ys. refl) (c.kind-kind.ensures _) c.in-31.is (c.real_value.ensures _)
 
 pub property_expression_primary-returns-in-32 : goal.property_expression_primary-returns-in-32
 unfolding first keywords names null ones read step take_any take_one take_wrong
-property_expression_primary-returns-in-32 t c = arm 32 (refl, refl, refl) (λ n ys. refl) c.kind-kind.ensures c.in-32.is (c.string_value.ensures _)
+property_expression_primary-returns-in-32 t c = arm 32 (refl, refl, refl) (λ n ys. refl) (c.kind-kind.ensures _) c.in-32.is (c.string_value.ensures _)
 
 pub property_expression_primary-returns-in-91 : goal.property_expression_primary-returns-in-91
 unfolding first keywords names null ones read step take_any take_one take_wrong
-property_expression_primary-returns-in-91 t c = arm 91 (refl, refl, refl) (λ n ys. refl) c.kind-kind.ensures c.in-91.is c.classifier_value.ensures
+property_expression_primary-returns-in-91 t c = arm 91 (refl, refl, refl) (λ n ys. refl) (c.kind-kind.ensures _) c.in-91.is c.classifier_value.ensures
 
 pub property_expression_primary-returns-in-92 : goal.property_expression_primary-returns-in-92
 unfolding first keywords names null ones read step take_any take_one take_wrong
-property_expression_primary-returns-in-92 t c = arm 92 (refl, refl, refl) (λ n ys. refl) c.kind-kind.ensures c.in-92.is (c.reference_value.ensures _)
+property_expression_primary-returns-in-92 t c = arm 92 (refl, refl, refl) (λ n ys. refl) (c.kind-kind.ensures _) c.in-92.is (c.reference_value.ensures _)
 
 pub property_expression_primary-returns-in-94 : goal.property_expression_primary-returns-in-94
 unfolding first keywords names null ones read step take_any take_one take_wrong
-property_expression_primary-returns-in-94 t c = arm 94 (refl, refl, refl) (λ n ys. refl) c.kind-kind.ensures c.in-94.is (c.computed_value.ensures _)
+property_expression_primary-returns-in-94 t c = arm 94 (refl, refl, refl) (λ n ys. refl) (c.kind-kind.ensures _) c.in-94.is (c.computed_value.ensures _)
 
 pub property_expression_primary-returns-in-33 : goal.property_expression_primary-returns-in-33
 unfolding first keywords names null ones read step take_any take_one take_wrong
-property_expression_primary-returns-in-33 t c = arm 33 (refl, refl, refl) (λ n ys. refl) c.kind-kind.ensures c.in-33.is (c.named_value.ensures _)
+property_expression_primary-returns-in-33 t c = arm 33 (refl, refl, refl) (λ n ys. refl) (c.kind-kind.ensures _) c.in-33.is (c.named_value.ensures _)
 
 pub property_expression_primary-returns-then-kind : goal.property_expression_primary-returns-then-kind
 unfolding first keywords names null ones read step take_any take_one take_wrong
 property_expression_primary-returns-then-kind t c =
     ⊎_elim
-    (λ e. arm 106 (refl, refl, refl) (λ n ys. refl) c.kind-kind.ensures (eqb-true _ 106 e) (c.boolean_value.ensures _))
-    (λ e. arm 107 (refl, refl, refl) (λ n ys. refl) c.kind-kind.ensures (eqb-true _ 107 e) (c.boolean_value.ensures _))
+    (λ e. arm 106 (refl, refl, refl) (λ n ys. refl) (c.kind-kind.ensures _) (eqb-true _ 106 e) (c.boolean_value.ensures _))
+    (λ e. arm 107 (refl, refl, refl) (λ n ys. refl) (c.kind-kind.ensures _) (eqb-true _ 107 e) (c.boolean_value.ensures _))
     (or_cases (eqb c.kind-kind.result 106) (eqb c.kind-kind.result 107) c.if-kind.true)
 
 pub property_expression_primary-returns-in_default : goal.property_expression_primary-returns-in_default

@@ -10,4 +10,4 @@ use Rattle.expressions.proofs.at_opener.Goals as goal
 pub returns : goal.returns
 returns c =
     let p = c.args.p.now in
-    shown-are (source p.tokens) (counters p) (# NOT_KW) (numbers (L_PAREN ∷ L_BRACKET ∷ PLUS ∷ MINUS ∷ [])) refl refl refl c.kind-kind.ensures
+    shown-are (source p.tokens) (counters p) (# NOT_KW) (numbers (L_PAREN ∷ L_BRACKET ∷ PLUS ∷ MINUS ∷ [])) refl refl refl (c.kind-kind.ensures _)

@@ -10,4 +10,4 @@ use Rattle.expressions.proofs.at_operator.Goals as goal
 pub returns : goal.returns
 returns c =
     let p = c.args.p.now in
-    shown-are (source p.tokens) (counters p) (# STAR) (numbers (SLASH ∷ PLUS ∷ MINUS ∷ DOT_DOT ∷ [])) refl refl refl c.kind-kind.ensures
+    shown-are (source p.tokens) (counters p) (# STAR) (numbers (SLASH ∷ PLUS ∷ MINUS ∷ DOT_DOT ∷ [])) refl refl refl (c.kind-kind.ensures _)

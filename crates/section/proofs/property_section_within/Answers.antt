@@ -17,24 +17,24 @@ slice_bounds-new-end c = passed-fits c.tokenize_within-a.ensures c.if-a-ne0.fals
 pub slice_bounds-new-end-2 : goal.slice_bounds-new-end-2
 slice_bounds-new-end-2 c = sym (length-take-le c.tokenize_within-a.result.tokens _ (passed-fits c.tokenize_within-a.ensures c.if-a-ne0.false))
 
-pub overflow_cast-stop : goal.overflow_cast-stop
-overflow_cast-stop c =
+pub overflow_cast-c : goal.overflow_cast-c
+overflow_cast-c c =
     let t = c.tokenize_within-a.ensures in
     let n = c.if-a-ne0.false in
-    let s = sectioned c.args.limits (passed-short t n c.requires) (passed_words t n) c.new-p.ensures c.read.ensures in
-    omega (arith, stopped-small s c.if-stop-ne0.true)
+    let s = sectioned c.args.limits (passed-short t n c.requires) (passed_words t n) c.new-p.ensures c.read.ensures c.counters-c.ensures in
+    omega (arith, stopped-small s c.if-c-ne0.true)
 
-pub returns-then-stop-ne0 : goal.returns-then-stop-ne0
-returns-then-stop-ne0 c =
+pub returns-then-c-ne0 : goal.returns-then-c-ne0
+returns-then-c-ne0 c =
     let t = c.tokenize_within-a.ensures in
     let n = c.if-a-ne0.false in
-    let s = sectioned c.args.limits (passed-short t n c.requires) (passed_words t n) c.new-p.ensures c.read.ensures in
-    let r = c.refuse-then-stop-ne0.ensures in
-    called-stopped t n s _ _ _ (search rules) c.if-stop-ne0.true r.0 c.tokenize_within-a.auto.tokens r.1 c.clear.ensures
+    let s = sectioned c.args.limits (passed-short t n c.requires) (passed_words t n) c.new-p.ensures c.read.ensures c.counters-c.ensures in
+    let r = c.refuse-then-c-ne0.ensures in
+    called-stopped t n s _ _ _ (search rules) c.if-c-ne0.true r.0 c.tokenize_within-a.auto.tokens r.1 c.clear.ensures
 
 pub returns : goal.returns
 returns c =
     let t = c.tokenize_within-a.ensures in
     let n = c.if-a-ne0.false in
-    let s = sectioned c.args.limits (passed-short t n c.requires) (passed_words t n) c.new-p.ensures c.read.ensures in
-    called-answered t n s (search rules) c.if-stop-ne0.false
+    let s = sectioned c.args.limits (passed-short t n c.requires) (passed_words t n) c.new-p.ensures c.read.ensures c.counters-c.ensures in
+    called-answered t n s (search rules) c.if-c-ne0.false

@@ -1,7 +1,20 @@
 -- No more bytes are read than there is room for (OutcomeLaws). Assumes nothing.
+use Rattle.std.proofs.Common.{◌≤◌, ◌-◌, length, arith}
 use borrow.Author.Rules.{rules}
-use Rattle.streams.proofs.OutcomeLaws.{read_at_most}
+use Rattle.streams.proofs.OutcomeLaws.{reads_at_most, moves_behind, behind_at_most}
 use Rattle.streams.proofs.read_once.Goals as goal
 
+pub after-requires : goal.after-requires
+after-requires g c =
+    let rest = length c.args.buf.now - c.args.count in
+    let moved = reads_at_most rest c.read.result c.came_to.result c.read.new.buf c.came_to.ensures c.read.ensures.bound (search rules) in
+    let fits : length c.args.buf.now ≤ 18446744073709551615 = search rules in
+    moves_behind c.came_to.result c.args.count rest 18446744073709551615 (omega (arith, c.requires, fits)) moved
+
 pub returns : goal.returns
-returns g c = read_at_most c.read.result c.came_to.result c.read.new.buf c.args.buf.now c.came_to.ensures c.read.ensures.bound (search rules)
+returns g c =
+    let n = length c.args.buf.now in
+    let rest = n - c.args.count in
+    let moved = reads_at_most rest c.read.result c.came_to.result c.read.new.buf c.came_to.ensures c.read.ensures.bound (search rules) in
+    behind_at_most n c.args.count c.came_to.result _ c.after.result c.requires (moves_behind c.came_to.result c.args.count rest n (omega (arith, c.requires)) moved)
+    c.after.ensures

@@ -11,4 +11,4 @@ returns-then-self-ne0 c =
     sym (nth-stopped (source p.tokens) (counters p) 0 c.if-self-ne0.true)
 
 pub returns : goal.returns
-returns c = c.current.ensures ∙ nth-uncounted c.args.self.now 0 c.if-self-ne0.false
+returns c = c.current.ensures ∙ nth-uncounted _ c.args.self.now 0 c.if-self-ne0.false

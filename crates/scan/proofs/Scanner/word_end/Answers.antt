@@ -1,15 +1,27 @@
 -- Behind the bound by the run; before it four bytes at a turn with no test for the end: the place looked at goes on (WordLaws) behind each
 -- byte of a word. The measure is what is left up to the bound. Assumes nothing.
-use Prim.Native.Nat.{◌+◌}
-use mathlib.Core.Path.{refl, sym, ◌∙◌}
+use Prim.Native.Nat.{ℕ, ◌+◌}
+use mathlib.Core.Path.{◌≡◌, refl, sym, ap, ◌∙◌}
+use mathlib.Core.List.{List}
 use native.Mathlib.Omega.{arith}
+use lib.ListN.{length, drop, length-drop}
+use Rattle.std.proofs.lemmas.List.{take_rest}
+use Rattle.std.specs.List.{take_while}
+use Rattle.aadl.specs.Bytes.{is_ident_continue, run, run_end}
+use Rattle.aadl.proofs.TokenBounds.{run-within}
 use Rattle.classes.specs.Classes.{member}
+use Rattle.classes.proofs.Chunks.{taken-run}
 use Rattle.scan.proofs.WordLaws.{Going, going-inside, going_on, going-stops}
 use Rattle.scan.proofs.Scanner.word_end.Goals as goal
 
 pub returns-then-self-from : goal.returns-then-self-from
-unfolding member
-returns-then-self-from c = (c.run_end.ensures.0, omega (arith, c.run_end.ensures.1, c.requires.1), c.run_end.ensures.2)
+unfolding member run_end
+returns-then-self-from c =
+    let s = c.args.self.text.now in
+    let p = is_ident_continue in
+    let left = drop c.args.from s in
+    let n : c.run.result ≡ run p left = c.run.ensures ∙ ap (λ (bs : List ℕ). length (take_while p bs)) (take_rest s c.args.from) ∙ taken-run p left in
+    (omega (arith, n), omega (arith, n, run-within p left, length-drop c.args.from s, c.requires.1), omega arith)
 
 pub returns-then-not-in_class : goal.returns-then-not-in_class
 unfolding member
