@@ -30,8 +30,7 @@ names = # IDENT ∷ keywords
 abbrev pub token : Kind → Part Rule
 token k = tok (expected (# k)) (# k ∷ [])
 
--- a fixed token that is taken only where it stands: where it is missing, message 0, which never comes (proofs
--- `NeverMissed`)
+-- a fixed token that is taken only where it stands: where it is missing, message 0, which never comes (proofs `NeverMissed`)
 abbrev pub begun : Kind → Part Rule
 begun k = tok unmet (# k ∷ [])
 
@@ -87,23 +86,20 @@ path = node CONTAINMENT_PATH (maybe segments)
 
 -- "Direction → DIRECTION: in, in out, out, provides, requires."
 abbrev pub direction_forms : List Form
-direction_forms =
-    forms (row_in (# DIRECTION)) ((IN_KW ∷ []) ∷ (IN_KW ∷ OUT_KW ∷ []) ∷ (OUT_KW ∷ []) ∷ (PROVIDES_KW ∷ []) ∷ (REQUIRES_KW ∷ []) ∷ [])
+direction_forms = forms (row_in (# DIRECTION)) ((IN_KW ∷ []) ∷ (IN_KW ∷ OUT_KW ∷ []) ∷ (OUT_KW ∷ []) ∷ (PROVIDES_KW ∷ []) ∷ (REQUIRES_KW ∷ []) ∷ [])
 
 -- "Category: data port, event data, event data port, event port, event, data access, bus access, feature, feature group, port,
 -- access; or → COMPONENT_CATEGORY: virtual bus, virtual processor, thread, thread group, subprogram, subprogram group, system,
 -- process, processor, bus, memory, device, data, abstract." "A `virtual` where a Category may begin fits no other rule": alone it
 -- is broken, message 8.
 abbrev pub feature_forms : List Form
-feature_forms =
-    forms row
+feature_forms = forms row
     ((DATA_KW ∷ PORT_KW ∷ []) ∷ (EVENT_KW ∷ DATA_KW ∷ []) ∷ (EVENT_KW ∷ DATA_KW ∷ PORT_KW ∷ []) ∷ (EVENT_KW ∷ PORT_KW ∷ []) ∷
     (EVENT_KW ∷ []) ∷ (DATA_KW ∷ ACCESS_KW ∷ []) ∷ (BUS_KW ∷ ACCESS_KW ∷ []) ∷ (FEATURE_KW ∷ []) ∷ (FEATURE_KW ∷ GROUP_KW ∷ []) ∷
     (PORT_KW ∷ []) ∷ (ACCESS_KW ∷ []) ∷ [])
 
 abbrev pub component_forms : List Form
-component_forms =
-    forms (row_in (# COMPONENT_CATEGORY))
+component_forms = forms (row_in (# COMPONENT_CATEGORY))
     ((VIRTUAL_KW ∷ BUS_KW ∷ []) ∷ (VIRTUAL_KW ∷ PROCESSOR_KW ∷ []) ∷ (THREAD_KW ∷ []) ∷ (THREAD_KW ∷ GROUP_KW ∷ []) ∷
     (SUBPROGRAM_KW ∷ []) ∷ (SUBPROGRAM_KW ∷ GROUP_KW ∷ []) ∷ (SYSTEM_KW ∷ []) ∷ (PROCESS_KW ∷ []) ∷ (PROCESSOR_KW ∷ []) ∷
     (BUS_KW ∷ []) ∷ (MEMORY_KW ∷ []) ∷ (DEVICE_KW ∷ []) ∷ (DATA_KW ∷ []) ∷ (ABSTRACT_KW ∷ []) ∷ [])
@@ -258,8 +254,7 @@ abbrev pub arrow : Part Rule
 arrow = tok 1 (numbers (FAT_ARROW ∷ PLUS_ARROW ∷ []))
 
 abbrev pub association_rest : Part Rule
-association_rest =
-    arrow · maybe (begun CONSTANT_KW) · commas value value · maybe applies_to · maybe in_binding · token SEMICOLON
+association_rest = arrow · maybe (begun CONSTANT_KW) · commas value value · maybe applies_to · maybe in_binding · token SEMICOLON
 
 abbrev pub association : (first second : Part Rule) → Part Rule
 association first second = node PROPERTY_ASSOCIATION (property_ref first second · association_rest)
@@ -279,8 +274,7 @@ abbrev pub read_association : Part Rule
 read_association = association (property_name 3) (property_name 2)
 
 abbrev pub section : Part Rule
-section =
-    node PROPERTY_SECTION (begun PROPERTIES_KW · either (unless (one (# NONE_KW) ∷ [])) (begun NONE_KW · token SEMICOLON) (many read_association))
+section = node PROPERTY_SECTION (begun PROPERTIES_KW · either (unless (one (# NONE_KW) ∷ [])) (begun NONE_KW · token SEMICOLON) (many read_association))
 
 abbrev pub rules : Rule → Part Rule
 rules Expression = expression
